@@ -1,0 +1,4 @@
+pub mod Order
+pub mod WholeLaws
+pub mod PairLaws
+pub mod Totals
