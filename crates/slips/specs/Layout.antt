@@ -1,0 +1,21 @@
+-- Where fields stand.
+use mathlib.Core.List.{List, [], _∷_}
+use Prim.Native.Nat.{ℕ, _+_}
+use lib.ListN.{length}
+
+-- bytes, and where they begin
+pub record Text : Type 0 where
+  pub bytes : List ℕ
+  pub place : ℕ
+
+abbrev pub text : List ℕ → ℕ → Text
+text bs i = record { bytes = bs; place = i }
+
+-- the same bytes, so many bytes further on
+abbrev pub shifted : ℕ → Text → Text
+shifted b t = text (t .bytes) (b + t .place)
+
+-- fields that stand one after another, a comma between each and the next, the first at byte i
+abbrev pub laid : ℕ → List (List ℕ) → List Text
+laid i [] = []
+laid i (f ∷ fs) = text f i ∷ laid (i + length f + 1) fs

@@ -1,0 +1,6 @@
+pub mod Format
+pub mod Causes
+pub mod Rules
+pub mod Layout
+pub mod Parts
+pub mod Seen
