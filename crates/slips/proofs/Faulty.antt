@@ -36,6 +36,11 @@ place-is p (suc (suc (suc zero))) h = refl
 place-is p (suc (suc (suc (suc zero)))) h = refl
 place-is p (suc (suc (suc (suc (suc k))))) h = absurd (omega arith)
 
+-- numbers in decimal are well written
+pub numbers-all : (ns : List ℕ) → All (λ n. n ≤ most) ns → All IsNumber (map decimal ns)
+numbers-all [] h = tt
+numbers-all (n ∷ ns) h = ((n, (h .0, refl)), numbers-all ns (h .1))
+
 module _ (l : Letter) (fs : List (List ℕ)) (ts : List Text) (places : ts ≡ laid 2 fs) (five : length fs ≡ 5) where
   -- the field k is badly written
   pub bad-at : {f : RowFault} (k : ℕ) → k < 5 → ((j : ℕ) → j < k → IsNumber (getD fs j [])) → (IsNumber (getD fs k []) → ⊥)
@@ -55,10 +60,6 @@ module _ (l : Letter) (fs : List (List ℕ)) (ts : List Text) (places : ts ≡ l
       (λ j low h. read j (omega (arith, first .within)) ∙ ap decimal (first .zero-before j low h))
       (λ z. first .not-zero (same-from-decimal (getD ns k 0) 0 (omega (arith, all-getD (λ n. n ≤ most) ns k 0 (first .within) small)) (omega arith) (sym (read k (first .within)) ∙ z)))
       (e ∙ (ap (λ (n : ℕ). row-fault NotZero n (getD ts k (text [] 0) .place)) (omega arith) ∙ ap (row-fault NotZero (2 + k)) (ap (λ (us : List Text). getD us k (text [] 0) .place) places ∙ laid-place 2 fs k (text [] 0) (omega (arith, first .within)))))
-    where
-      numbers-all : (ms : List ℕ) → All (λ n. n ≤ most) ms → All IsNumber (map decimal ms)
-      numbers-all [] h = tt
-      numbers-all (m ∷ ms) h = ((m, (h .0, refl)), numbers-all ms (h .1))
 
 -- a fault at a number begins within its line
 pub fault-within : {l : Letter} {fs : List (List ℕ)} {f : RowFault} (line : List ℕ) → Fields line l fs → NumberFault l fs f → f .at ≤ length line

@@ -4,3 +4,7 @@ pub mod Faulty
 pub mod Finding
 pub mod Layouts
 pub mod Marks
+pub mod Progress
+pub mod Puts
+pub mod Single
+pub mod Unique

@@ -1,7 +1,8 @@
 -- Where fields stand.
+use mathlib.Core.Path.{_≡_}
 use mathlib.Core.List.{List, [], _∷_}
 use Prim.Native.Nat.{ℕ, _+_}
-use lib.ListN.{length}
+use lib.ListN.{length, take, drop}
 
 -- bytes, and where they begin
 pub record Text : Type 0 where
@@ -10,6 +11,10 @@ pub record Text : Type 0 where
 
 abbrev pub text : List ℕ → ℕ → Text
 text bs i = record { bytes = bs; place = i }
+
+-- a part of the slip: its bytes stand there from its place on
+abbrev pub Part : List ℕ → Text → Type 0
+Part slip t = take (length (t .bytes)) (drop (t .place) slip) ≡ t .bytes
 
 -- the same bytes, so many bytes further on
 abbrev pub shifted : ℕ → Text → Text

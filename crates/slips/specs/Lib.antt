@@ -4,3 +4,4 @@ pub mod Rules
 pub mod Layout
 pub mod Parts
 pub mod Seen
+pub mod Writing

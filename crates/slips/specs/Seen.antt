@@ -4,6 +4,7 @@ use mathlib.Core.Path.{_≡_}
 use mathlib.Core.List.{List, [], _∷_, _++_, map}
 use Prim.Native.Nat.{ℕ, _+_, _≤_, _<_}
 use lib.ListN.{length, drop, take}
+use Rattle.std.specs.shelf.Lists.{All}
 use Rattle.std.specs.Written.{decimal}
 use Rattle.std.specs.declared.option.Option.{Option}
 use Rattle.std.specs.declared.option.Option.the-variants.{Some, None}
@@ -18,7 +19,7 @@ use Rattle.slips.specs.declared.walk.Reading.{Reading}
 use Rattle.slips.specs.declared.walk.Reading.the-variants as reading
 use Rattle.slips.specs.Causes.{slip-fault}
 use Rattle.slips.specs.Format.{most-bytes, letter-byte, numbers, Proper, row-line, names-line}
-use Rattle.slips.specs.Layout.{Text, laid}
+use Rattle.slips.specs.Layout.{Text, Part, laid}
 use Rattle.slips.specs.Parts.{field-seen}
 use Rattle.slips.specs.Rules.{NamesFault, RowsFault}
 
@@ -41,6 +42,15 @@ row-seen r = record {
   values = r .values;
 }
 
+-- rows that stand one after another, the first on the line l, which begins at byte b
+abbrev pub found-from : ℕ → ℕ → List Values → List Found
+found-from b l [] = []
+found-from b l (v ∷ vs) = found b l v ∷ found-from (b + length (row-line v)) (l + 1) vs
+
+-- the values of rows
+abbrev pub values-in : List Row → List Values
+values-in rs = map (λ r. r .values) rs
+
 -- what reading answers
 pub data Answer : Type 0 where
   a-row : Found → Answer
@@ -51,6 +61,12 @@ abbrev pub seen : Reading → Answer
 seen (reading.Row r) = a-row (row-seen r)
 seen (reading.Fault f) = a-fault f
 seen reading.End = the-end
+
+-- the fields of a row handed out are parts of the slip
+abbrev pub InSlip : List ℕ → Answer → Type 0
+InSlip slip (a-row r) = All (Part slip) (r .fields)
+InSlip slip (a-fault f) = Unit {0}
+InSlip slip the-end = Unit {0}
 
 -- the same as a result, where a row comes with the byte after its line
 abbrev pub step : Option (Row × ℕ) → Answer

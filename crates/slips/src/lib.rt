@@ -10,6 +10,8 @@ mod fields;
 mod lines;
 mod rows;
 mod walk;
+mod whole;
+mod write;
 
 pub use cursor::Reader;
 pub use faults::Cause;
@@ -35,3 +37,6 @@ pub use rows::ValuesDebug;
 pub use rows::ValuesEq;
 pub use rows::ValuesPartialEq;
 pub use walk::Reading;
+pub use whole::Contents;
+pub use whole::read_slip;
+pub use write::write_row;

@@ -55,6 +55,18 @@ pub(crate) fn letter_from(letter: char) -> Result<Letter, Cause>
     }
 }
 
+impl Letter {
+    /// The byte that stands for this letter in a slip.
+    pub fn byte(self) -> u8
+        ensures { λ r. ⌜ r ≡ letter-byte self ⌝ }
+    {
+        match self {
+            Letter::Growth => b'G',
+            Letter::Strike => b'S',
+        }
+    }
+}
+
 impl Values {
     /// The five numbers, in the order of the fields.
     pub fn numbers(&self) -> [u32; 5]

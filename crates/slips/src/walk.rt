@@ -9,7 +9,7 @@ ghost use Rattle.slips.specs.declared.faults.Cause.{Cause as ACause};
 ghost use Rattle.slips.specs.Causes.{slip-fault};
 ghost use Rattle.slips.specs.Format.{most-bytes, names-line, row-line};
 ghost use Rattle.slips.specs.Rules.{NamesFault};
-ghost use Rattle.slips.specs.Seen.{Answer, a-fault, seen, outcome, After, RowsAnswer, Answers, place, moved};
+ghost use Rattle.slips.specs.Seen.{Answer, a-fault, seen, outcome, InSlip, After, RowsAnswer, Answers, place, moved};
 use crate::cursor::Reader;
 use crate::faults::Cause;
 use crate::faults::Fault;
@@ -135,6 +135,8 @@ impl<'a> Reader<'a> {
     /// it on, so that reading again after a fault or at the end gives the same.
     pub fn read(&mut self) -> Reading<'a>
         ensures answer { λ r. ⌜ Answers (now (now (self .entry) .slip)) (now (self .entry) .byte) (now (self .entry) .line) (seen r) ⌝ }
+        ensures only { λ r. ⌜ ((a : Answer) → Answers (now (now (self .entry) .slip)) (now (self .entry) .byte) (now (self .entry) .line) a → a ≡ seen r) ⌝ }
+        ensures parts { λ r. ⌜ InSlip (now (now (self .entry) .slip)) (seen r) ⌝ }
         ensures moved { λ r. ⌜ place (now (self .exit) .byte) (now (self .exit) .line) ≡ moved (seen r) (place (now (self .entry) .byte) (now (self .entry) .line)) ⌝ }
         ensures slip { λ _. ⌜ now (self .exit) .slip ≡ now (self .entry) .slip ⌝ }
     {

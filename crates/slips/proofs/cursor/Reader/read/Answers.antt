@@ -4,19 +4,31 @@ use Prim.Native.Nat.{ℕ, _+_}
 use Rattle.std.specs.declared.option.Option.{Option}
 use Rattle.slips.specs.declared.rows.Row.{Row}
 use Rattle.slips.specs.Seen.{place, step, StepAfter, Answers}
+use Rattle.slips.proofs.Finding.{answers-parts}
+use Rattle.slips.proofs.Unique.{answers-once}
 use Rattle.slips.proofs.cursor.Reader.read.Needs as need
+
+pub returns-in-Err : need.returns-in-Err
+returns-in-Err c =
+    let s = c .args .self .now in
+    let h = c .in-Err .ensures tt .answer in
+    record { answer = h; only = λ a k. answers-once (s .slip .now) (s .byte) (s .line) a _ k h; parts = tt; moved = refl; slip = refl }
 
 pub returns-in-rest : need.returns-in-rest
 returns-in-rest c =
     let s = c .args .self .now in
-    record { answer = subst (λ (o : Option (Row × ℕ)). Answers (s .slip .now) (s .byte) (s .line) (step o)) (c .in-rest .is) (c .in-Ok .ensures tt .answer); moved = refl; slip = refl }
+    let h = subst (λ (o : Option (Row × ℕ)). Answers (s .slip .now) (s .byte) (s .line) (step o)) (c .in-rest .is) (c .in-Ok .ensures tt .answer) in
+    record { answer = h; only = λ a k. answers-once (s .slip .now) (s .byte) (s .line) a _ k h; parts = tt; moved = refl; slip = refl }
 
 pub returns : need.returns
 returns c =
     let s = c .args .self .now in
     let after = subst (λ (o : Option (Row × ℕ)). StepAfter o (s .slip .now)) (c .in-Some .is) (c .in-Ok .ensures tt .after) in
+    let h = subst (λ (o : Option (Row × ℕ)). Answers (s .slip .now) (s .byte) (s .line) (step o)) (c .in-Some .is) (c .in-Ok .ensures tt .answer) in
     record {
-      answer = subst (λ (o : Option (Row × ℕ)). Answers (s .slip .now) (s .byte) (s .line) (step o)) (c .in-Some .is) (c .in-Ok .ensures tt .answer);
+      answer = h;
+      only = λ a k. answers-once (s .slip .now) (s .byte) (s .line) a _ k h;
+      parts = answers-parts (s .slip .now) (s .byte) (s .line) _ h;
       moved = ap (λ (b : ℕ). place b (c .in-Some .row .line + 1)) (after .0);
       slip = refl;
     }
