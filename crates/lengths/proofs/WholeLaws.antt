@@ -26,7 +26,7 @@ module _ {F : Type 0} (of : ℕ → F) (at : F → ℕ) (of-at : (x : F) → of 
   exact x y m n h p q = omega (arith, room m n h p q, at-of (min (at x + at y) greatest))
 
   pub whole-exact : Exact (whole of at most) at
-  whole-exact = record { none = at-of 0; both = λ {x} {y} m n h p q. exact x y m n h p q }
+  whole-exact = record { none = at-of 0; order = λ x y. refl; both = λ {x} {y} m n h p q. exact x y m n h p q }
 
   compared : (x y : F) → Compared (whole of at most) x y
   compared x y = elim (cases-order (at x) (at y)) [

@@ -3,6 +3,7 @@ use mathlib.Core.Path.{_≡_}
 use mathlib.Core.Bool.{Bool, true, false}
 use mathlib.Core.List.{List, [], _∷_}
 use Prim.Native.Nat.{ℕ, _+_, _≤_}
+use lib.Dec.{ltb}
 
 -- What a kind says of its figures: which is zero, what two come to, which of two is less, and which may be an
 -- entry, that is, a single run or drop.
@@ -44,9 +45,11 @@ pub record Laws {F : Type 0} (k : Figures F) : Type 0 where
   pub shift : {x y z : F} (l m n : ℕ) → l + n ≤ most-entries → m + n ≤ most-entries → Sum k l x → Sum k m y → Sum k n z
       → k .less (k .sum x z) (k .sum y z) ≡ k .less x y
 
--- where figures have whole numbers: a sum within the bound on entries is the sum of the whole numbers, and zero is 0
+-- figures are whole numbers: zero is 0, less is by the number, so that no two figures have one number, and a sum within the
+-- bound on entries is the sum of the whole numbers
 pub record Exact {F : Type 0} (k : Figures F) (number : F → ℕ) : Type 0 where
   pub none : number (k .zero) ≡ 0
+  pub order : (x y : F) → k .less x y ≡ ltb (number x) (number y)
   pub both : {x y : F} (m n : ℕ) → m + n ≤ most-entries → Sum k m x → Sum k n y → number (k .sum x y) ≡ number x + number y
 
 -- x is less than y; x is at most y

@@ -41,7 +41,7 @@ pub trait Whole: Length {
     // The whole number that a figure is.
     ghost number: { Self → ℕ };
 
-    // A sum within the bound on entries is the sum of the whole numbers.
+    // Figures compare by their numbers, and a sum within the bound on entries is the sum of the whole numbers.
     law exact: { Exact (Self·Length .figures) number };
 
     /// The whole number that this figure is.

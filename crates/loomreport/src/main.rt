@@ -1,17 +1,15 @@
 //! `loomreport`: reads a slip from standard input and prints its report.
+use report::enough;
 use report::slip_report;
 use std::error::AnyError;
 use std::io;
 use std::io::Read;
 use std::io::ReadMethods;
 
-/// One byte more than a slip may have, so that a longer one is seen to be too long without being held in memory.
-const ENOUGH: u64 = 65_537;
-
-/// The bytes of standard input, as far as they matter.
+/// The bytes of standard input, as many as are enough: an input of any length is reported in bounded memory.
 fn input(rt: &LibcRuntime) -> io::Result<Vec<u8>> {
     let mut slip = Vec::new(rt.alloc());
-    let mut source = rt.stdin().take(ENOUGH);
+    let mut source = rt.stdin().take(enough());
     source.read_to_end(&mut slip)?;
     Ok(slip)
 }

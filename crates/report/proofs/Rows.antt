@@ -21,6 +21,7 @@ rows-lines b l (r ∷ rows) e =
   where
     head : {x y : Found} {xs ys : List Found} → x ∷ xs ≡ y ∷ ys → x ≡ y
     head p = cc
+
     tail : {x y : Found} {xs ys : List Found} → x ∷ xs ≡ y ∷ ys → xs ≡ ys
     tail p = cc
 

@@ -18,7 +18,8 @@ use Rattle.std.proofs.shelf.Lists.{nil-from-length}
 use Rattle.std.proofs.shelf.Parts.{first-rest}
 use Rattle.std.proofs.shelf.Tests.{cases-lt, and-parts, and-from}
 use Rattle.slips.specs.Format.{most}
-use Rattle.slips.specs.Rules.{Number, IsNumber, digits-after}
+use Rattle.slips.specs.Rules.{Number, IsNumber}
+use Rattle.slips.specs.Inner.{digits-after}
 
 pub own : Numerals (λ ds. allDigits ds ≡ true) (digits-after 0)
 own = numerals-by-fold _ (search needs) digits-after (search needs)

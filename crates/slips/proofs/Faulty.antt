@@ -16,10 +16,10 @@ use Rattle.slips.specs.declared.rows.Letter.{Letter}
 use Rattle.slips.specs.declared.rows.Letter.the-variants.{Strike}
 use Rattle.slips.specs.declared.fields.Parts.{Parts}
 use Rattle.slips.specs.Causes.{row-fault}
-use Rattle.slips.specs.Format.{most, commaed}
+use Rattle.slips.specs.Format.{most, letter-byte, commaed}
 use Rattle.slips.specs.Layout.{Text, text, laid}
-use Rattle.slips.specs.Parts.{parts-seen, place-at}
-use Rattle.slips.specs.Rules.{IsNumber, Fields, FirstNonzero, field-fault, NumberFault, badly-written, not-zero}
+use Rattle.slips.specs.Rules.{IsNumber, SixFields, FirstNonzero, field-fault, NumberFault, badly-written, not-zero}
+use Rattle.slips.specs.Inner.{parts-seen, place-at}
 use Rattle.slips.proofs.Layouts.{commaed-front}
 
 -- where a field stands, by what stands before it
@@ -62,7 +62,7 @@ module _ (l : Letter) (fs : List (List ℕ)) (ts : List Text) (places : ts ≡ l
       (e ∙ (ap (λ (n : ℕ). row-fault NotZero n (getD ts k (text [] 0) .place)) (omega arith) ∙ ap (row-fault NotZero (2 + k)) (ap (λ (us : List Text). getD us k (text [] 0) .place) places ∙ laid-place 2 fs k (text [] 0) (omega (arith, first .within)))))
 
 -- a fault at a number begins within its line
-pub fault-within : {l : Letter} {fs : List (List ℕ)} {f : RowFault} (line : List ℕ) → Fields line l fs → NumberFault l fs f → f .at ≤ length line
+pub fault-within : {l : Letter} {fs : List (List ℕ)} {f : RowFault} (line : List ℕ) → SixFields line (letter-byte l ∷ []) fs → NumberFault l fs f → f .at ≤ length line
 fault-within {l} {fs} {f} line h (badly-written k low before here e) =
     omega (arith, ap (λ (g : RowFault). g .at) e, commaed-front fs k (omega (arith, h .five)), ap length (h .text))
 fault-within {l} {fs} {f} line h (not-zero k some low s all before here e) =

@@ -7,7 +7,8 @@ use lib.ListN.{length, take, getD}
 use Rattle.std.specs.shelf.Lists.{All}
 use Rattle.std.proofs.shelf.Lists.{append-nil, length-append}
 use Rattle.slips.specs.Format.{commaed}
-use Rattle.slips.specs.Layout.{Text, text, shifted, laid}
+use Rattle.slips.specs.Layout.{Text, text, laid}
+use Rattle.slips.specs.Inner.{shifted}
 
 -- a field, and then what follows its comma
 pub commaed-next : {rest after t : List ℕ} (f : List ℕ) → rest ≡ f ++ 44 ∷ after → 44 ∷ after ≡ t → 44 ∷ rest ≡ 44 ∷ (f ++ t)

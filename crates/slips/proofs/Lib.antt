@@ -1,3 +1,4 @@
+pub mod Again
 pub mod Answering
 pub mod Decimal
 pub mod Faulty

@@ -10,7 +10,8 @@ use lib.ListN.{length, getD, take, drop}
 use Rattle.std.specs.shelf.Lists.{All, between}
 use Rattle.std.proofs.shelf.Lists.{take-append-drop, drop-more, take-more, take-rest, length-append}
 use Rattle.std.proofs.shelf.Tests.{cases-eq, eq-eqb, ne-eqb}
-use Rattle.slips.specs.Rules.{Free, count}
+use Rattle.slips.specs.Rules.{Free}
+use Rattle.slips.specs.Inner.{count}
 
 -- the bytes around the mark at i
 pub cut-at : (m : ℕ) (xs : List ℕ) (i : ℕ) → i < length xs → getD xs i 0 ≡ m → xs ≡ take i xs ++ m ∷ drop (i + 1) xs

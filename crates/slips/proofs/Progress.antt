@@ -15,14 +15,10 @@ use Rattle.slips.specs.declared.faults.Fault.{Fault}
 use Rattle.slips.specs.declared.rows.Values.{Values}
 use Rattle.slips.specs.Format.{Proper, row-line, row-text, names-line, slip-text, most-bytes}
 use Rattle.slips.specs.Rules as rules
-use Rattle.slips.specs.Rules.{Holds, RowsFault}
+use Rattle.slips.specs.Rules.{Holds, Read, RowsFault}
 use Rattle.slips.specs.Seen as seen
+use Rattle.slips.specs.Writing.{RowOf, ReadBack}
 use Rattle.slips.specs.Seen.{Found, found, found-from, Answer, a-row, a-fault, the-end, RowsAnswer, Answers, Place, place, moved}
-
--- the rows vs have been read, and the reader stands at byte b, where the line l begins
-pub data Progress (slip : List ℕ) (vs : List Values) (b l : ℕ) : Type 0 where
-  begun : vs ≡ [] → b ≡ 0 → l ≡ 1 → Progress slip vs b l
-  gone : length slip ≤ most-bytes → All Proper vs → slip ≡ slip-text vs ++ drop b slip → b ≡ length (slip-text vs) → l ≡ 2 + length vs → Progress slip vs b l
 
 -- an answer there: a fault of the whole slip or its names, or what the rows left answer
 data Onward (slip : List ℕ) (vs : List Values) (a : Answer) : Type 0 where
@@ -32,18 +28,18 @@ data Onward (slip : List ℕ) (vs : List Values) (a : Answer) : Type 0 where
 no-rows : slip-text [] ≡ names-line
 no-rows = append-nil names-line
 
-goes : (slip : List ℕ) (vs : List Values) (b l : ℕ) (a : Answer) → Progress slip vs b l → Answers slip b l a → Onward slip vs a
-goes slip vs b l a (begun n z o) (seen.too-long h d) = stopped _ d (rules.too-long h n refl)
-goes slip vs b l a (begun n z o) (seen.no-names c h o′ k d) = stopped _ d (rules.no-names c h k n refl)
-goes slip vs b l a (begun n z o) (seen.first rest h o′ e k) =
+goes : (slip : List ℕ) (vs : List Values) (b l : ℕ) (a : Answer) → Read slip vs b l → Answers slip b l a → Onward slip vs a
+goes slip vs b l a (rules.nothing n z o) (seen.too-long h d) = stopped _ d (rules.too-long h n refl)
+goes slip vs b l a (rules.nothing n z o) (seen.no-names c h o′ k d) = stopped _ d (rules.no-names c h k n refl)
+goes slip vs b l a (rules.nothing n z o) (seen.first rest h o′ e k) =
     let P : List Values → Type 0 = λ us. Onward slip us a in
     subst P (sym n)
     (onward rest h tt (e ∙ ap (λ (t : List ℕ). t ++ rest) (sym no-rows)) (subst (λ (i : ℕ). RowsAnswer rest i 2 a) (ap length (sym no-rows)) k))
-goes slip vs b l a (begun n z o) (seen.later h o′ k) = absurd (o′ o)
-goes slip vs b l a (gone h p e f o) (seen.too-long h′ d) = absurd (omega arith)
-goes slip vs b l a (gone h p e f o) (seen.no-names c h′ o′ k d) = absurd (omega arith)
-goes slip vs b l a (gone h p e f o) (seen.first rest h′ o′ e′ k) = absurd (omega arith)
-goes slip vs b l a (gone h p e f o) (seen.later h′ o′ k) =
+goes slip vs b l a (rules.nothing n z o) (seen.later h o′ k) = absurd (o′ o)
+goes slip vs b l a (rules.up-to h p e f o) (seen.too-long h′ d) = absurd (omega arith)
+goes slip vs b l a (rules.up-to h p e f o) (seen.no-names c h′ o′ k d) = absurd (omega arith)
+goes slip vs b l a (rules.up-to h p e f o) (seen.first rest h′ o′ e′ k) = absurd (omega arith)
+goes slip vs b l a (rules.up-to h p e f o) (seen.later h′ o′ k) =
     onward (drop b slip) h p e (subst (λ (i : ℕ). RowsAnswer (drop b slip) i (2 + length vs) a) f (subst (λ (i : ℕ). RowsAnswer (drop b slip) b i a) o k))
 
 -- the end, a fault
@@ -53,7 +49,7 @@ ended slip vs (onward rest h p e (seen.ends n d)) = rules.whole h p (e ∙ ap (�
 ended slip vs (onward rest h p e (seen.faulty f k d)) = let z : _≡_ {A = ℕ} 0 1 = cc in absurd (omega arith)
 ended slip vs (onward rest h p e (seen.row v a q c d)) = let z : _≡_ {A = ℕ} 0 1 = cc in absurd (omega arith)
 
-pub at-end : (slip : List ℕ) (vs : List Values) (b l : ℕ) → Progress slip vs b l → Answers slip b l the-end → Holds slip vs None
+pub at-end : (slip : List ℕ) (vs : List Values) (b l : ℕ) → Read slip vs b l → Answers slip b l the-end → Holds slip vs None
 at-end slip vs b l p a = ended slip vs (goes slip vs b l the-end p a)
 
 failed : (slip : List ℕ) (vs : List Values) (f : Fault) → Onward slip vs (a-fault f) → Holds slip vs (Some f)
@@ -62,7 +58,7 @@ failed slip vs f (onward rest h p e (seen.ends n d)) = let z : _≡_ {A = ℕ} 0
 failed slip vs f (onward rest h p e (seen.faulty g k d)) = let s : g ≡ f = cc in rules.at-row rest f h p e (subst (RowsFault rest (length (slip-text vs)) (2 + length vs)) s k) refl
 failed slip vs f (onward rest h p e (seen.row v a q c d)) = let z : _≡_ {A = ℕ} 0 1 = cc in absurd (omega arith)
 
-pub at-fault : (slip : List ℕ) (vs : List Values) (b l : ℕ) (f : Fault) → Progress slip vs b l → Answers slip b l (a-fault f) → Holds slip vs (Some f)
+pub at-fault : (slip : List ℕ) (vs : List Values) (b l : ℕ) (f : Fault) → Read slip vs b l → Answers slip b l (a-fault f) → Holds slip vs (Some f)
 at-fault slip vs b l f p a = failed slip vs f (goes slip vs b l (a-fault f) p a)
 
 -- a row
@@ -72,7 +68,7 @@ text-push vs v = sym (joined-more row-line names-line vs v)
 -- what a row leaves: the reader past its line, further on within the slip
 pub record Stepped (slip : List ℕ) (vs : List Values) (b l : ℕ) (w : Found) : Type 0 where
   pub here : w ≡ found (length (slip-text vs)) (2 + length vs) (w .values)
-  pub next : Progress slip (vs ++ w .values ∷ []) (w .byte + length (row-line (w .values))) (w .line + 1)
+  pub next : Read slip (vs ++ w .values ∷ []) (w .byte + length (row-line (w .values))) (w .line + 1)
   pub further : b < w .byte + length (row-line (w .values))
   pub within : w .byte + length (row-line (w .values)) ≤ length slip
 
@@ -88,16 +84,16 @@ stepped slip vs b l w low (onward rest h p e (seen.row v a q c d)) =
     let left : drop (length (slip-text vs) + length (row-line v)) slip ≡ a = ap (λ (k : ℕ). drop k slip) far ∙ front-rest slip (slip-text (vs ++ v ∷ [])) a whole in
     record {
       here = refl;
-      next = gone h (all-push Proper vs v p q) (whole ∙ ap (λ (t : List ℕ). slip-text (vs ++ v ∷ []) ++ t) (sym left)) far (omega (arith, length-push vs v));
+      next = rules.up-to h (all-push Proper vs v p q) (whole ∙ ap (λ (t : List ℕ). slip-text (vs ++ v ∷ []) ++ t) (sym left)) far (omega (arith, length-push vs v));
       further = omega (arith, length-append (row-text v) (10 ∷ []));
       within = omega (arith, ap length whole, length-append (slip-text (vs ++ v ∷ [])) a);
     })
 
-low : (slip : List ℕ) (vs : List Values) (b l : ℕ) → Progress slip vs b l → b ≤ length (slip-text vs)
-low slip vs b l (begun n z o) = omega arith
-low slip vs b l (gone h p e f o) = omega arith
+low : (slip : List ℕ) (vs : List Values) (b l : ℕ) → Read slip vs b l → b ≤ length (slip-text vs)
+low slip vs b l (rules.nothing n z o) = omega arith
+low slip vs b l (rules.up-to h p e f o) = omega arith
 
-pub at-row : (slip : List ℕ) (vs : List Values) (b l : ℕ) (w : Found) → Progress slip vs b l → Answers slip b l (a-row w) → Stepped slip vs b l w
+pub at-row : (slip : List ℕ) (vs : List Values) (b l : ℕ) (w : Found) → Read slip vs b l → Answers slip b l (a-row w) → Stepped slip vs b l w
 at-row slip vs b l w p a = stepped slip vs b l w (low slip vs b l p) (goes slip vs b l (a-row w) p a)
 
 -- rows found one after another, and one more
@@ -117,8 +113,12 @@ rows-more fs vs w e h =
     ∙ sym (found-push (length names-line) 2 vs (w .values))
 
 -- a turn of reading: from the answer of a row, and where the reader stands then
-pub turn : {slip at : List ℕ} {vs : List Values} {b l : ℕ} {w : Found} {p : Place} → at ≡ slip → Progress slip vs b l → Answers at b l (a-row w) → p ≡ moved (a-row w) (place b l)
-    → (w ≡ found (length (slip-text vs)) (2 + length vs) (w .values)) × Progress slip (vs ++ w .values ∷ []) (p .byte) (p .line) × (b < p .byte) × (p .byte ≤ length slip)
+pub turn : {slip at : List ℕ} {vs : List Values} {b l : ℕ} {w : Found} {p : Place} → at ≡ slip → Read slip vs b l → Answers at b l (a-row w) → p ≡ moved (a-row w) (place b l)
+    → (w ≡ found (length (slip-text vs)) (2 + length vs) (w .values)) × Read slip (vs ++ w .values ∷ []) (p .byte) (p .line) × (b < p .byte) × (p .byte ≤ length slip)
 turn {slip} {at} {vs} {b} {l} {w} {p} e h a m =
     let s = at-row slip vs b l w h (subst (λ (x : List ℕ). Answers x b l (a-row w)) e a) in
-    (s .here, subst (λ (q : Place). Progress slip (vs ++ w .values ∷ []) (q .byte) (q .line)) (sym m) (s .next), omega (arith, ap (λ (q : Place). q .byte) m, s .further), omega (arith, ap (λ (q : Place). q .byte) m, s .within))
+    (s .here, subst (λ (q : Place). Read slip (vs ++ w .values ∷ []) (q .byte) (q .line)) (sym m) (s .next), omega (arith, ap (λ (q : Place). q .byte) m, s .further), omega (arith, ap (λ (q : Place). q .byte) m, s .within))
+
+-- a row that is written after any rows is read back
+pub row-back : (c : ℕ) (ns : List ℕ) (v : Values) → RowOf c ns v → Proper v → ReadBack c ns (row-line v)
+row-back c ns v g p vs all h = (v, g, rules.whole h (all-push Proper vs v all p) (sym (text-push vs v)) refl)

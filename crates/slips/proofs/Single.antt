@@ -11,14 +11,15 @@ use Rattle.std.proofs.shelf.Decimals.{digits-decimal, same-from-decimal}
 use Rattle.std.proofs.shelf.Elements.{all-getD, all-from-getD, all-append}
 use Rattle.std.proofs.shelf.Lists.{append-assoc, getD-map, length-map, getD-drop}
 use Rattle.std.proofs.shelf.Numerals.{not-in-digits}
-use Rattle.std.proofs.shelf.Tests.{cases-order}
+use Rattle.std.proofs.shelf.Tests.{cases-eq, cases-order}
 use Rattle.slips.specs.declared.faults.Cause.the-variants.{BadNumber, NotZero}
 use Rattle.slips.specs.declared.faults.RowFault.{RowFault}
 use Rattle.slips.specs.declared.rows.Letter.{Letter}
 use Rattle.slips.specs.declared.rows.Letter.the-variants.{Growth, Strike}
 use Rattle.slips.specs.declared.rows.Values.{Values}
 use Rattle.slips.specs.Format.{most, letter-byte, numbers, Proper, commaed, row-text, row-line}
-use Rattle.slips.specs.Rules.{Free, count, IsNumber, Fields, field-fault, NumberFault, badly-written, not-zero, LineFault, not-six-fields, bad-letter, at-number}
+use Rattle.slips.specs.Inner.{count}
+use Rattle.slips.specs.Rules.{Free, IsNumber, SixFields, field-fault, NumberFault, badly-written, not-zero, LineFault, not-six-fields, bad-letter, at-number}
 use Rattle.slips.proofs.Decimal.{own}
 use Rattle.slips.proofs.Marks.{count-append, count-free, count-here, count-other}
 use Rattle.slips.proofs.Faulty.{numbers-all}
@@ -72,33 +73,73 @@ commaed-once (f ∷ fs) [] h k e = absurd (nil-cons (sym e))
 commaed-once (f ∷ fs) (g ∷ gs) h k e =
     let t = field-once f g fs gs (h .0) (k .0) (tails e) in cons (t .0) (commaed-once fs gs (h .1) (k .1) (t .1))
 
-letter-once : (l m : Letter) → letter-byte l ≡ letter-byte m → l ≡ m
+pub letter-once : (l m : Letter) → letter-byte l ≡ letter-byte m → l ≡ m
 letter-once Growth Growth e = refl
 letter-once Growth Strike e = absurd (omega (arith, e))
 letter-once Strike Growth e = absurd (omega (arith, e))
 letter-once Strike Strike e = refl
 
-letter-apart : (l : Letter) (m : ℕ) → m < 50 → letter-byte l ≡ m → ⊥
+pub letter-apart : (l : Letter) (m : ℕ) → m < 50 → letter-byte l ≡ m → ⊥
 letter-apart Growth m h e = omega (arith, e)
 letter-apart Strike m h e = omega (arith, e)
 
-pub fields-once : {line : List ℕ} {l m : Letter} {fs gs : List (List ℕ)} → Fields line l fs → Fields line m gs → (l ≡ m) × (fs ≡ gs)
-fields-once {line} {l} {m} {fs} {gs} h k =
-    let e = sym (h .text) ∙ k .text in
-    (letter-once l m (heads e), commaed-once fs gs (h .free) (k .free) (tails e))
+-- a line is parted into six fields in one way
+pub six-once : {line e g : List ℕ} {fs gs : List (List ℕ)} → SixFields line e fs → SixFields line g gs → (e ≡ g) × (fs ≡ gs)
+six-once {line} {e} {g} {fs} {gs} h k =
+    let t = field-once e g fs gs (h .first-free) (k .first-free) (sym (h .text) ∙ k .text) in
+    (t .0, commaed-once fs gs (h .free) (k .free) (t .1))
 
+-- and it has five commas then
 commaed-count : (fs : List (List ℕ)) → All (Free 44) fs → count 44 (commaed fs) ≡ length fs
 commaed-count [] h = refl
 commaed-count (f ∷ fs) h =
     omega (arith, count-here 44 44 (f ++ commaed fs) refl, count-append 44 f (commaed fs), count-free 44 f (h .0), commaed-count fs (h .1))
 
-fields-count : {line : List ℕ} {l : Letter} {fs : List (List ℕ)} → Fields line l fs → count 44 line ≡ 5
-fields-count {line} {l} {fs} h =
-    ap (count 44) (h .text) ∙ count-other 44 (letter-byte l) (commaed fs) (letter-apart l 44 (omega arith)) ∙ commaed-count fs (h .free) ∙ h .five
+pub six-count : {line e : List ℕ} {fs : List (List ℕ)} → SixFields line e fs → count 44 line ≡ 5
+six-count {line} {e} {fs} h =
+    ap (count 44) (h .text) ∙ count-append 44 e (commaed fs) ∙ omega (arith, count-free 44 e (h .first-free), commaed-count fs (h .free), h .five)
 
-fields-letter : {line : List ℕ} {l : Letter} (fs : List (List ℕ)) → Fields line l fs → (rest : List ℕ) × (line ≡ letter-byte l ∷ (44 ∷ rest))
-fields-letter [] h = absurd (omega (arith, h .five))
-fields-letter (f ∷ fs) h = (f ++ commaed fs, h .text)
+-- every line is parted into fields, one more than it has commas
+record Parting (line : List ℕ) : Type 0 where
+  first : List ℕ
+  others : List (List ℕ)
+  text : line ≡ first ++ commaed others
+  first-free : Free 44 first
+  free : All (Free 44) others
+  many : length others ≡ count 44 line
+
+parting : (line : List ℕ) → Parting line
+parting [] = record { first = []; others = []; text = refl; first-free = tt; free = tt; many = refl }
+parting (c ∷ cs) =
+    let p = parting cs in
+    elim (cases-eq c 44) [
+      | inl e ↦ record {
+        first = [];
+        others = p .first ∷ p .others;
+        text = ap (λ (x : ℕ). x ∷ cs) e ∙ ap (λ (t : List ℕ). 44 ∷ t) (p .text);
+        first-free = tt;
+        free = (p .first-free, p .free);
+        many = omega (arith, count-here 44 c cs e, p .many);
+      }
+      | inr n ↦ record {
+        first = c ∷ p .first;
+        others = p .others;
+        text = ap (λ (t : List ℕ). c ∷ t) (p .text);
+        first-free = (n, p .first-free);
+        free = p .free;
+        many = p .many ∙ sym (count-other 44 c cs n);
+      }
+    ]
+
+pub six-from-count : (line : List ℕ) → count 44 line ≡ 5 → (e : List ℕ) × ((fs : List (List ℕ)) × SixFields line e fs)
+six-from-count line h =
+    let p = parting line in
+    (p .first, (p .others, record { text = p .text; five = p .many ∙ h; first-free = p .first-free; free = p .free }))
+
+-- the first of six fields is a letter only where the line begins with it and a comma
+pub six-letter : {line e : List ℕ} (fs : List (List ℕ)) (l : Letter) → SixFields line e fs → e ≡ letter-byte l ∷ [] → (rest : List ℕ) × (line ≡ letter-byte l ∷ (44 ∷ rest))
+six-letter [] l h s = absurd (omega (arith, h .five))
+six-letter (f ∷ fs) l h s = (f ++ commaed fs, h .text ∙ ap (λ (x : List ℕ). x ++ commaed (f ∷ fs)) s)
 
 -- a line has one first fault
 
@@ -117,18 +158,21 @@ module _ (l : Letter) (fs : List (List ℕ)) (five : length fs ≡ 5) where
         | inr t ↦ elim t [ inl low ↦ absurd (n (z′ j s low)) | inr low ↦ absurd (n′ (z k s′ low)) ]
       ]
 
+pub letters-once : (l m : Letter) → letter-byte l ∷ [] ≡ letter-byte m ∷ [] → l ≡ m
+letters-once l m e = letter-once l m (heads e)
+
 pub line-fault-once : (line : List ℕ) (f g : RowFault) → LineFault line f → LineFault line g → f ≡ g
 line-fault-once line f g (not-six-fields n d) (not-six-fields n′ d′) = d ∙ sym d′
-line-fault-once line f g (not-six-fields n d) (bad-letter c n′ d′) = absurd (n c)
-line-fault-once line f g (not-six-fields n d) (at-number l fs h k) = absurd (n (fields-count h))
-line-fault-once line f g (bad-letter c n d) (not-six-fields n′ d′) = absurd (n′ c)
-line-fault-once line f g (bad-letter c n d) (bad-letter c′ n′ d′) = d ∙ sym d′
-line-fault-once line f g (bad-letter c n d) (at-number l fs h k) = let t = fields-letter fs h in absurd (n l (t .0) (t .1))
-line-fault-once line f g (at-number l fs h k) (not-six-fields n d) = absurd (n (fields-count h))
-line-fault-once line f g (at-number l fs h k) (bad-letter c n d) = let t = fields-letter fs h in absurd (n l (t .0) (t .1))
+line-fault-once line f g (not-six-fields n d) (bad-letter e fs h n′ d′) = absurd (n e fs h)
+line-fault-once line f g (not-six-fields n d) (at-number l fs h k) = absurd (n _ fs h)
+line-fault-once line f g (bad-letter e fs h n d) (not-six-fields n′ d′) = absurd (n′ e fs h)
+line-fault-once line f g (bad-letter e fs h n d) (bad-letter e′ fs′ h′ n′ d′) = d ∙ sym d′
+line-fault-once line f g (bad-letter e fs h n d) (at-number l gs k q) = absurd (n l (six-once h k .0))
+line-fault-once line f g (at-number l fs h k) (not-six-fields n d) = absurd (n _ fs h)
+line-fault-once line f g (at-number l fs h k) (bad-letter e gs q n d) = absurd (n l (six-once q h .0))
 line-fault-once line f g (at-number l fs h k) (at-number m gs h′ k′) =
-    let t = fields-once h h′ in
-    let k″ : NumberFault l fs g = subst (λ (m : Letter). NumberFault m fs g) (sym (t .0)) (subst (λ (gs : List (List ℕ)). NumberFault m gs g) (sym (t .1)) k′) in
+    let t = six-once h h′ in
+    let k″ : NumberFault l fs g = subst (λ (m : Letter). NumberFault m fs g) (sym (letters-once l m (t .0))) (subst (λ (gs : List (List ℕ)). NumberFault m gs g) (sym (t .1)) k′) in
     number-fault-once l fs (h .five) f g k k″
 
 -- the text of a row
@@ -149,8 +193,14 @@ commaed-free m (f ∷ fs) n h = (n, all-append (λ c. c ≡ m → ⊥) f (commae
 pub text-free : (v : Values) → Proper v → Free 10 (row-text v)
 text-free v h = (letter-apart (v .letter) 10 (omega arith), commaed-free 10 (map decimal (numbers v)) (λ e. omega (arith, e)) (decimals-free 10 (numbers v) (omega arith) (h .0)))
 
-pub text-fields : (v : Values) → Proper v → Fields (row-text v) (v .letter) (map decimal (numbers v))
-text-fields v h = record { text = refl; five = refl; free = decimals-free 44 (numbers v) (omega arith) (h .0) }
+pub text-fields : (v : Values) → Proper v → SixFields (row-text v) (letter-byte (v .letter) ∷ []) (map decimal (numbers v))
+text-fields v h = record { text = refl; five = refl; first-free = (letter-apart (v .letter) 44 (omega arith), tt); free = decimals-free 44 (numbers v) (omega arith) (h .0) }
+
+-- a number after the tag, where all of them are 0
+pub zero-at : (ns : List ℕ) (k : ℕ) → 1 ≤ k → k < length ns → All (λ n. n ≡ 0) (drop 1 ns) → getD ns k 0 ≡ 0
+zero-at [] k some low all = refl
+zero-at (n ∷ ns) zero some low all = absurd (omega arith)
+zero-at (n ∷ ns) (suc k) some low all = all-getD (λ n. n ≡ 0) ns k 0 (omega arith) all
 
 -- a proper row has no fault
 number-sound : (v : Values) → Proper v → (f : RowFault) → NumberFault (v .letter) (map decimal (numbers v)) f → ⊥
@@ -158,15 +208,10 @@ number-sound v h f (badly-written k low b n d) = n (all-getD IsNumber (map decim
 number-sound v h f (not-zero k some low s all z n d) =
     let ns = numbers v in
     n (getD-map decimal ns k 0 [] low ∙ ap decimal (zero-at ns k some low (h .1 s)))
-  where
-    zero-at : (ns : List ℕ) (k : ℕ) → 1 ≤ k → k < length ns → All (λ n. n ≡ 0) (drop 1 ns) → getD ns k 0 ≡ 0
-    zero-at [] k some low all = refl
-    zero-at (n ∷ ns) zero some low all = absurd (omega arith)
-    zero-at (n ∷ ns) (suc k) some low all = all-getD (λ n. n ≡ 0) ns k 0 (omega arith) all
 
 pub text-sound : (v : Values) → Proper v → (f : RowFault) → LineFault (row-text v) f → ⊥
-text-sound v h f (not-six-fields n d) = n (fields-count (text-fields v h))
-text-sound v h f (bad-letter c n d) = let t = fields-letter (map decimal (numbers v)) (text-fields v h) in n (v .letter) (t .0) (t .1)
+text-sound v h f (not-six-fields n d) = n _ _ (text-fields v h)
+text-sound v h f (bad-letter e fs q n d) = n (v .letter) (six-once q (text-fields v h) .0)
 text-sound v h f (at-number l fs k nf) =
-    let t = fields-once k (text-fields v h) in
-    number-sound v h f (subst (λ (m : Letter). NumberFault m (map decimal (numbers v)) f) (t .0) (subst (λ (gs : List (List ℕ)). NumberFault l gs f) (t .1) nf))
+    let t = six-once k (text-fields v h) in
+    number-sound v h f (subst (λ (m : Letter). NumberFault m (map decimal (numbers v)) f) (letters-once l (v .letter) (t .0)) (subst (λ (gs : List (List ℕ)). NumberFault l gs f) (t .1) nf))

@@ -16,14 +16,14 @@ use Rattle.slips.specs.declared.faults.RowFault.{RowFault}
 use Rattle.slips.specs.declared.rows.Letter.{Letter}
 use Rattle.slips.specs.declared.rows.Values.{Values}
 use Rattle.slips.specs.Causes.{slip-fault, placed}
-use Rattle.slips.specs.Format.{most, numbers, Proper, row-text, row-line, names, names-line, slip-text}
+use Rattle.slips.specs.Format.{most, letter-byte, numbers, Proper, row-text, row-line, names, names-line, slip-text}
 use Rattle.slips.specs.Rules as rules
 use Rattle.slips.specs.Rules.{Free, NamesFault, RowsFault, Holds}
 use Rattle.slips.specs.Seen as seen
 use Rattle.slips.specs.Seen.{Answer, a-row, a-fault, the-end, found, RowsAnswer, Answers}
 use Rattle.slips.proofs.Marks.{free-from-count}
 use Rattle.slips.proofs.Puts.{values-of}
-use Rattle.slips.proofs.Single.{nil-append, cut-once, no-cut, fields-once, text-fields, line-fault-once, text-free, text-sound}
+use Rattle.slips.proofs.Single.{nil-append, cut-once, no-cut, six-once, letters-once, text-fields, line-fault-once, text-free, text-sound}
 
 -- rows
 
@@ -41,9 +41,9 @@ numbers-once (n ∷ ns) (m ∷ ms) h k e =
 pub text-once : (v w : Values) → Proper v → Proper w → row-text v ≡ row-text w → v ≡ w
 unfolding values-of
 text-once v w h k e =
-    let t = fields-once (text-fields v h) (subst (λ (x : List ℕ). rules.Fields x (w .letter) (map decimal (numbers w))) (sym e) (text-fields w k)) in
+    let t = six-once (text-fields v h) (subst (λ (x : List ℕ). rules.SixFields x (letter-byte (w .letter) ∷ []) (map decimal (numbers w))) (sym e) (text-fields w k)) in
     let same : values-of (v .letter) (numbers v) ≡ values-of (w .letter) (numbers w) =
-    ap (λ (l : Letter). values-of l (numbers v)) (t .0) ∙ ap (values-of (w .letter)) (numbers-once (numbers v) (numbers w) (h .0) (k .0) (t .1)) in
+    ap (λ (l : Letter). values-of l (numbers v)) (letters-once (v .letter) (w .letter) (t .0)) ∙ ap (values-of (w .letter)) (numbers-once (numbers v) (numbers w) (h .0) (k .0) (t .1)) in
     same
 
 line-cut : (v : Values) (a : List ℕ) → row-line v ++ a ≡ row-text v ++ 10 ∷ a

@@ -2,6 +2,6 @@ pub mod Format
 pub mod Causes
 pub mod Rules
 pub mod Layout
-pub mod Parts
 pub mod Seen
 pub mod Writing
+pub mod Inner

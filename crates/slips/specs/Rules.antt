@@ -1,9 +1,7 @@
 -- Which fault a line has, and which a slip has: the first cause in the order of the checks.
 use mathlib.Core.Path.{_≡_}
-use mathlib.Core.Bool.{Bool, cond}
 use mathlib.Core.List.{List, [], _∷_, _++_}
-use Prim.Native.Nat.{ℕ, suc, _+_, _-_, _*_, _≤_, _<_}
-use lib.Dec.{eqb}
+use Prim.Native.Nat.{ℕ, _+_, _≤_, _<_}
 use lib.ListN.{length, getD, take, drop}
 use Rattle.std.specs.shelf.Lists.{All}
 use Rattle.std.specs.Written.{decimal}
@@ -23,16 +21,6 @@ use Rattle.slips.specs.Format.{most, most-bytes, letter-byte, Proper, commaed,
 abbrev pub Free : ℕ → List ℕ → Type 0
 Free b bs = All (λ c. c ≡ b → ⊥) bs
 
--- how often the byte b stands in bs
-abbrev pub count : ℕ → List ℕ → ℕ
-count b [] = 0
-count b (c ∷ cs) = cond (eqb c b) (suc (count b cs)) (count b cs)
-
--- the number that digits write after the digits of n
-abbrev pub digits-after : ℕ → List ℕ → ℕ
-digits-after n [] = n
-digits-after n (c ∷ cs) = digits-after (n * 10 + (c - 48)) cs
-
 -- the field f is the writing of the number n
 abbrev pub Number : List ℕ → ℕ → Type 0
 Number f n = (n ≤ most) × (f ≡ decimal n)
@@ -48,10 +36,11 @@ pub record FirstNonzero (ns : List ℕ) (k : ℕ) : Type 0 where
   pub zero-before : (j : ℕ) → 1 ≤ j → j < k → getD ns j 0 ≡ 0
   pub not-zero : getD ns k 0 ≡ 0 → ⊥
 
--- the line has the letter l and the five fields fs after it, parted by commas
-pub record Fields (line : List ℕ) (l : Letter) (fs : List (List ℕ)) : Type 0 where
-  pub text : line ≡ letter-byte l ∷ commaed fs
+-- the line has six fields, f and the five fs, parted by commas
+pub record SixFields (line f : List ℕ) (fs : List (List ℕ)) : Type 0 where
+  pub text : line ≡ f ++ commaed fs
   pub five : length fs ≡ 5
+  pub first-free : Free 44 f
   pub free : All (Free 44) fs
 
 -- a fault in the field fs k, the field k + 2 of its line
@@ -69,11 +58,10 @@ pub data NumberFault (l : Letter) (fs : List (List ℕ)) (f : RowFault) : Type 0
 
 -- `LineFault line f`: f is the first fault of the line as a row
 pub data LineFault (line : List ℕ) (f : RowFault) : Type 0 where
-  -- six fields have five commas
-  not-six-fields : (count 44 line ≡ 5 → ⊥) → f ≡ row-fault NotSixFields 0 0 → LineFault line f
-  bad-letter : count 44 line ≡ 5 → ((l : Letter) (rest : List ℕ) → line ≡ letter-byte l ∷ (44 ∷ rest) → ⊥)
+  not-six-fields : ((e : List ℕ) (fs : List (List ℕ)) → SixFields line e fs → ⊥) → f ≡ row-fault NotSixFields 0 0 → LineFault line f
+  bad-letter : (e : List ℕ) (fs : List (List ℕ)) → SixFields line e fs → ((l : Letter) → e ≡ letter-byte l ∷ [] → ⊥)
       → f ≡ row-fault BadLetter 1 0 → LineFault line f
-  at-number : (l : Letter) (fs : List (List ℕ)) → Fields line l fs → NumberFault l fs f → LineFault line f
+  at-number : (l : Letter) (fs : List (List ℕ)) → SixFields line (letter-byte l ∷ []) fs → NumberFault l fs f → LineFault line f
 
 -- `NamesFault slip c`: the first line of the slip is at fault by the cause c
 pub data NamesFault (slip : List ℕ) (c : Cause) : Type 0 where
@@ -86,6 +74,13 @@ pub data RowsFault (rest : List ℕ) (b l : ℕ) (f : Fault) : Type 0 where
   unended : (rest ≡ [] → ⊥) → Free 10 rest → f ≡ slip-fault Unended l 0 b → RowsFault rest b l f
   in-line : (line after : List ℕ) (g : RowFault) → rest ≡ line ++ 10 ∷ after → Free 10 line → LineFault line g
       → f ≡ placed g l b → RowsFault rest b l f
+
+-- `Read slip vs b l`: the rows vs of the slip have been read, and byte b is where its line l begins, the next to read; at
+-- the start nothing has been read, not even the names
+pub data Read (slip : List ℕ) (vs : List Values) (b l : ℕ) : Type 0 where
+  nothing : vs ≡ [] → b ≡ 0 → l ≡ 1 → Read slip vs b l
+  up-to : length slip ≤ most-bytes → All Proper vs → slip ≡ slip-text vs ++ drop b slip → b ≡ length (slip-text vs) → l ≡ 2 + length vs
+      → Read slip vs b l
 
 -- `Holds slip vs o`: the slip holds the rows vs, and then ends, or has its first fault
 pub data Holds (slip : List ℕ) (vs : List Values) (o : Option Fault) : Type 0 where

@@ -1,15 +1,11 @@
 -- What a reader hands out, as its bytes and places say it, and what reading answers.
-use denote.Ref.{now, RefT}
 use mathlib.Core.Path.{_≡_}
 use mathlib.Core.List.{List, [], _∷_, _++_, map}
 use Prim.Native.Nat.{ℕ, _+_, _≤_, _<_}
 use lib.ListN.{length, drop, take}
 use Rattle.std.specs.shelf.Lists.{All}
 use Rattle.std.specs.Written.{decimal}
-use Rattle.std.specs.declared.option.Option.{Option}
 use Rattle.std.specs.declared.option.Option.the-variants.{Some, None}
-use Rattle.std.specs.declared.result.Result.{Result}
-use Rattle.std.specs.declared.result.Result.the-variants.{Ok, Err}
 use Rattle.slips.specs.declared.faults.Cause.{Cause}
 use Rattle.slips.specs.declared.faults.Cause.the-variants.{TooLong}
 use Rattle.slips.specs.declared.faults.Fault.{Fault}
@@ -19,9 +15,8 @@ use Rattle.slips.specs.declared.walk.Reading.{Reading}
 use Rattle.slips.specs.declared.walk.Reading.the-variants as reading
 use Rattle.slips.specs.Causes.{slip-fault}
 use Rattle.slips.specs.Format.{most-bytes, letter-byte, numbers, Proper, row-line, names-line}
-use Rattle.slips.specs.Layout.{Text, Part, laid}
-use Rattle.slips.specs.Parts.{field-seen}
-use Rattle.slips.specs.Rules.{NamesFault, RowsFault}
+use Rattle.slips.specs.Layout.{Text, field-seen, Part, laid}
+use Rattle.slips.specs.Rules.{NamesFault, RowsFault, Read, Holds}
 
 -- a row as it was found: its line, where that begins, its six fields with their places in the slip, and its values
 pub record Found : Type 0 where
@@ -62,30 +57,17 @@ seen (reading.Row r) = a-row (row-seen r)
 seen (reading.Fault f) = a-fault f
 seen reading.End = the-end
 
--- the fields of a row handed out are parts of the slip
-abbrev pub InSlip : List ℕ → Answer → Type 0
-InSlip slip (a-row r) = All (Part slip) (r .fields)
-InSlip slip (a-fault f) = Unit {0}
-InSlip slip the-end = Unit {0}
+-- what is so of a row handed out: it is proper, the slip has its line, as it is written, from the row's first byte on, and
+-- its fields are parts of the slip
+pub record Handed (slip : List ℕ) (r : Found) : Type 0 where
+  pub proper : Proper (r .values)
+  pub written : take (length (row-line (r .values))) (drop (r .byte) slip) ≡ row-line (r .values)
+  pub parts : All (Part slip) (r .fields)
 
--- the same as a result, where a row comes with the byte after its line
-abbrev pub step : Option (Row × ℕ) → Answer
-step None = the-end
-step (Some p) = a-row (row-seen (p .0))
-
-abbrev pub outcome : Result (Option (Row × ℕ)) Fault → Answer
-outcome (Ok o) = step o
-outcome (Err f) = a-fault f
-
--- the byte that comes with a row is the one after its line, within the slip; each line up to it has a byte at least
-abbrev pub StepAfter : Option (Row × ℕ) → List ℕ → Type 0
-StepAfter None slip = Unit {0}
-StepAfter (Some p) slip =
-    (p .1 ≡ p .0 .letter .place + length (row-line (p .0 .values))) × (p .1 ≤ length slip) × (p .0 .line + 1 ≤ p .1)
-
-abbrev pub After : Result (Option (Row × ℕ)) Fault → List ℕ → Type 0
-After (Ok o) slip = StepAfter o slip
-After (Err f) slip = Unit {0}
+abbrev pub HandsOut : List ℕ → Answer → Type 0
+HandsOut slip (a-row r) = Handed slip r
+HandsOut slip (a-fault f) = Unit {0}
+HandsOut slip the-end = Unit {0}
 
 -- `RowsAnswer rest b l a`: a is the answer where rest is left of the slip, from byte b on, where its line l begins
 pub data RowsAnswer (rest : List ℕ) (b l : ℕ) (a : Answer) : Type 0 where
@@ -113,3 +95,10 @@ abbrev pub moved : Answer → Place → Place
 moved (a-row r) p = place (r .byte + length (row-line (r .values))) (r .line + 1)
 moved (a-fault f) p = p
 moved the-end p = p
+
+-- `Continues slip vs a b l`: where the rows vs had been read, so it goes on from the answer a, with the reader at byte b and
+-- line l: one row more has been read, or the slip holds just vs and then has its fault, or ends
+abbrev pub Continues : List ℕ → List Values → Answer → ℕ → ℕ → Type 0
+Continues slip vs (a-row r) b l = Read slip (vs ++ r .values ∷ []) b l
+Continues slip vs (a-fault f) b l = Holds slip vs (Some f)
+Continues slip vs the-end b l = Holds slip vs None

@@ -6,7 +6,8 @@ ghost use Rattle.std.specs.Results.{Cases};
 ghost use Rattle.std.specs.shelf.Text.{allDigits};
 ghost use Rattle.slips.specs.declared.faults.Cause.the-variants.{BadNumber};
 ghost use Rattle.slips.specs.Format.{most};
-ghost use Rattle.slips.specs.Rules.{Number, IsNumber, digits-after};
+ghost use Rattle.slips.specs.Rules.{Number, IsNumber};
+ghost use Rattle.slips.specs.Inner.{digits-after};
 use crate::faults::Cause;
 
 /// The greatest number of a row.
@@ -24,7 +25,8 @@ fn more(so_far: u32, digits: &[u8]) -> Result<u32, Cause>
                 return Err(Cause::BadNumber);
             }
             let next = so_far * 10 + u32::from(*first - b'0');
-            if next > MOST {
+            let fits = next <= MOST;
+            if !fits {
                 return Err(Cause::BadNumber);
             }
             more(next, rest)

@@ -2,7 +2,8 @@
 ghost use mathlib.Core.Path.{_≡_};
 ghost use Prim.Native.Nat.{_+_, _^_, _<_};
 ghost use Rattle.std.specs.Vec.{refused};
-ghost use Rattle.slips.specs.Causes.{cause-number, write-number, in-field, on-line};
+ghost use Rattle.slips.specs.Causes.{cause-number, write-number, slip-fault};
+ghost use Rattle.slips.specs.Inner.{in-field, on-line};
 
 /// Why a slip or a row is refused. Of itself a cause knows no place: digits answer it bare.
 #[derive(Clone, Copy, PartialEq, Eq, Debug)]
@@ -34,7 +35,7 @@ impl Cause {
 }
 
 /// A cause in a row: the field where it stands, from 1, or 0, and the byte of the line where that field begins.
-#[derive(Clone, Copy, PartialEq, Eq, Debug)]
+#[derive(Clone, Copy)]
 pub(crate) struct RowFault {
     pub cause: Cause,
     pub field: usize,
@@ -48,6 +49,20 @@ pub struct Fault {
     pub line: usize,
     pub field: usize,
     pub byte: usize,
+}
+
+impl Fault {
+    /// A fault of a whole line, or of no line, with no field.
+    pub(crate) fn of_line(cause: Cause, line: usize, byte: usize) -> Fault
+        ensures { λ r. ⌜ r ≡ slip-fault cause line 0 byte ⌝ }
+    {
+        Fault {
+            cause,
+            line,
+            field: 0,
+            byte,
+        }
+    }
 }
 
 /// Why a row is not written: a cause in a field, or a buffer shorter than the line.

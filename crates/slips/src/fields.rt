@@ -12,10 +12,10 @@ ghost use Rattle.slips.specs.declared.faults.RowFault.{RowFault as ARowFault};
 ghost use Rattle.slips.specs.declared.rows.Letter.{Letter as ALetter};
 ghost use Rattle.slips.specs.Causes.{row-fault, placed};
 ghost use Rattle.slips.specs.Format.{most, letter-byte, numbers, Proper, commaed, row-text};
-ghost use Rattle.slips.specs.Rules.{Free, count, Number, IsNumber, FirstNonzero, NumberFault, LineFault};
-ghost use Rattle.slips.specs.Parts.{field-seen, bytes-of, parts-seen, place-at};
-ghost use Rattle.slips.specs.Layout.{laid, shifted};
+ghost use Rattle.slips.specs.Rules.{Free, Number, IsNumber, FirstNonzero, NumberFault, LineFault};
+ghost use Rattle.slips.specs.Layout.{laid, field-seen};
 ghost use Rattle.slips.specs.Seen.{row-seen, found};
+ghost use Rattle.slips.specs.Inner.{bytes-of, parts-seen, place-at, shifted, count};
 use crate::digits::number;
 use crate::faults::Cause;
 use crate::faults::Fault;
@@ -31,7 +31,8 @@ use crate::rows::Row;
 use crate::rows::Values;
 use crate::rows::letter_from;
 
-/// The five fields of a row after its letter.
+/// The five fields of a row after its letter. Until the row is handed out, their places count from the beginning of the
+/// line.
 #[derive(Clone, Copy)]
 pub(crate) struct Parts<'a> {
     pub tag: Field<'a>,
@@ -176,7 +177,8 @@ fn read_row(line: &[u8]) -> Result<(Parts<'_>, Values), RowFault>
     ensures value { λ r. ⌜ Cases r (λ p. Proper (p .1) × (now (line .entry) ≡ row-text (p .1)) × (parts-seen (p .0) ≡ laid 2 (map decimal (numbers (p .1))))) (λ f. LineFault (now (line .entry)) f) ⌝ }
     ensures within { λ r. ⌜ Cases r (λ p. All (λ t. t .place ≤ length (now (line .entry))) (parts-seen (p .0))) (λ f. f .at ≤ length (now (line .entry))) ⌝ }
 {
-    if count_of(line, b',') != 5 {
+    let six = count_of(line, b',') == 5;
+    if !six {
         return Err(RowFault {
             cause: Cause::NotSixFields,
             field: 0,

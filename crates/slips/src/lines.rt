@@ -4,7 +4,8 @@ ghost use mathlib.Core.List.{_∷_, _++_};
 ghost use Prim.Native.Nat.{_≤_};
 ghost use lib.ListN.{length};
 ghost use Rattle.std.specs.Options.{Cases as BySome};
-ghost use Rattle.slips.specs.Rules.{Free, count};
+ghost use Rattle.slips.specs.Rules.{Free};
+ghost use Rattle.slips.specs.Inner.{count};
 
 /// What stands before the first `mark` of `s`, and what stands after it; nothing where there is no mark.
 pub(crate) fn cut(s: &[u8], mark: u8) -> Option<(&[u8], &[u8])>

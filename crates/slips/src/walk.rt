@@ -1,15 +1,15 @@
 // Reading a slip row by row.
 ghost use mathlib.Core.Path.{_≡_};
-ghost use mathlib.Core.List.{_++_};
+ghost use mathlib.Core.List.{List, [], _++_};
 ghost use Prim.Native.Nat.{_+_, _≤_, _<_};
 ghost use lib.ListN.{length, drop};
 ghost use Rattle.std.specs.Results.{Cases};
 ghost use Rattle.std.specs.Vec.{made};
-ghost use Rattle.slips.specs.declared.faults.Cause.{Cause as ACause};
-ghost use Rattle.slips.specs.Causes.{slip-fault};
-ghost use Rattle.slips.specs.Format.{most-bytes, names-line, row-line};
-ghost use Rattle.slips.specs.Rules.{NamesFault};
-ghost use Rattle.slips.specs.Seen.{Answer, a-fault, seen, outcome, InSlip, After, RowsAnswer, Answers, place, moved};
+ghost use Rattle.slips.specs.declared.rows.Values.{Values as TheValues};
+ghost use Rattle.slips.specs.Format.{names-line};
+ghost use Rattle.slips.specs.Rules.{NamesFault, Read};
+ghost use Rattle.slips.specs.Seen.{Answer, a-fault, seen, HandsOut, RowsAnswer, Answers, place, moved, Continues};
+ghost use Rattle.slips.specs.Inner.{outcome, After};
 use crate::cursor::Reader;
 use crate::faults::Cause;
 use crate::faults::Fault;
@@ -65,12 +65,7 @@ fn rows_answer<'a>(
         return Ok(None);
     }
     let Some((bytes, _)) = cut(&slip[byte..], b'\n') else {
-        return Err(Fault {
-            cause: Cause::Unended,
-            line,
-            field: 0,
-            byte,
-        });
+        return Err(Fault::of_line(Cause::Unended, line, byte));
     };
     let row = row_at(bytes, line, byte)?;
     Ok(Some((row, byte + bytes.len() + 1)))
@@ -83,24 +78,14 @@ fn rows_start(slip: &[u8], byte: usize, line: usize) -> Result<(usize, usize), F
     ensures counted { λ r. ⌜ made r (λ s. s .1 ≤ s .0 + 1) ⌝ }
 {
     if slip.len() > MOST_BYTES {
-        return Err(Fault {
-            cause: Cause::TooLong,
-            line: 0,
-            field: 0,
-            byte: 0,
-        });
+        return Err(Fault::of_line(Cause::TooLong, 0, 0));
     }
     if line != 1 {
         return Ok((byte, line));
     }
     match check_names(slip) {
         Ok(()) => Ok((NAMES.len() + 1, 2)),
-        Err(cause) => Err(Fault {
-            cause,
-            line: 1,
-            field: 0,
-            byte: 0,
-        }),
+        Err(cause) => Err(Fault::of_line(cause, 1, 0)),
     }
 }
 
@@ -123,6 +108,7 @@ impl<'a> Reader<'a> {
     pub fn new(slip: &'a [u8]) -> Reader<'a>
         ensures slip { λ r. ⌜ r .slip ≡ slip .entry ⌝ }
         ensures start { λ r. ⌜ place (r .byte) (r .line) ≡ place 0 1 ⌝ }
+        ensures none { λ r. ⌜ Read (now (slip .entry)) [] (r .byte) (r .line) ⌝ }
     {
         Reader {
             slip,
@@ -136,8 +122,9 @@ impl<'a> Reader<'a> {
     pub fn read(&mut self) -> Reading<'a>
         ensures answer { λ r. ⌜ Answers (now (now (self .entry) .slip)) (now (self .entry) .byte) (now (self .entry) .line) (seen r) ⌝ }
         ensures only { λ r. ⌜ ((a : Answer) → Answers (now (now (self .entry) .slip)) (now (self .entry) .byte) (now (self .entry) .line) a → a ≡ seen r) ⌝ }
-        ensures parts { λ r. ⌜ InSlip (now (now (self .entry) .slip)) (seen r) ⌝ }
+        ensures row { λ r. ⌜ HandsOut (now (now (self .entry) .slip)) (seen r) ⌝ }
         ensures moved { λ r. ⌜ place (now (self .exit) .byte) (now (self .exit) .line) ≡ moved (seen r) (place (now (self .entry) .byte) (now (self .entry) .line)) ⌝ }
+        ensures whole { λ r. ⌜ ((vs : List TheValues) → Read (now (now (self .entry) .slip)) vs (now (self .entry) .byte) (now (self .entry) .line) → Continues (now (now (self .entry) .slip)) vs (seen r) (now (self .exit) .byte) (now (self .exit) .line)) ⌝ }
         ensures slip { λ _. ⌜ now (self .exit) .slip ≡ now (self .entry) .slip ⌝ }
     {
         let slip = self.slip;

@@ -2,19 +2,22 @@
 ghost use mathlib.Core.Path.{_≡_};
 ghost use mathlib.Core.List.{List, _∷_, _++_, map};
 ghost use Prim.Native.Nat.{ℕ, _+_, _*_, _≤_, _<_};
-ghost use lib.ListN.{length, getD, drop};
+ghost use lib.ListN.{length, getD, take, drop};
 ghost use Rattle.std.specs.Options.{Cases as BySome};
 ghost use Rattle.std.specs.Results.{Cases};
+ghost use Rattle.std.specs.Vec.{made};
 ghost use Rattle.std.specs.Written.{decimal};
 ghost use Rattle.std.specs.shelf.Lists.{All};
 ghost use Rattle.slips.specs.declared.rows.Letter.the-variants.{Strike};
-ghost use Rattle.slips.specs.Format.{most, letter-byte, commaed};
-ghost use Rattle.slips.specs.Writing.{BadRow, Unwritten, Written};
+ghost use Rattle.slips.specs.Format.{most, letter-byte, numbers, commaed};
+ghost use Rattle.slips.specs.Writing.{BadRow, Unwritten, Written, ReadBack, SameBytes};
+ghost use Rattle.slips.specs.Seen.{row-seen, Handed};
 use crate::digits::MOST;
 use crate::faults::Cause;
 use crate::faults::WriteFault;
 use crate::fields::nonzero_after_tag;
 use crate::rows::Letter;
+use crate::rows::Row;
 use crate::rows::letter_from;
 
 /// The first of `numbers` above the greatest, by its index.
@@ -113,7 +116,8 @@ fn put_fields(out: &mut [u8], numbers: &[u32]) -> usize
 /// Writes the row of a letter and five numbers, with its newline, at the front of `out`, and says how long it is. The
 /// bytes after it stay; a refusal writes nothing.
 pub fn write_row(letter: char, numbers: [u32; 5], out: &mut [u8]) -> Result<usize, WriteFault>
-    ensures { λ r. ⌜ Cases r (λ n. Written letter numbers (now (out .entry)) (now (out .exit)) n) (λ f. Unwritten letter numbers (length (now (out .entry))) f × (now (out .exit) ≡ now (out .entry))) ⌝ }
+    ensures answer { λ r. ⌜ Cases r (λ n. Written letter numbers (now (out .entry)) (now (out .exit)) n) (λ f. Unwritten letter numbers (length (now (out .entry))) f × (now (out .exit) ≡ now (out .entry))) ⌝ }
+    ensures back { λ r. ⌜ made r (λ n. ReadBack letter numbers (take n (now (out .exit)))) ⌝ }
 {
     let letter = checked(letter, &numbers)?;
     let len = fields_len(&numbers) + 2;
@@ -124,4 +128,16 @@ pub fn write_row(letter: char, numbers: [u32; 5], out: &mut [u8]) -> Result<usiz
     let k = put_fields(&mut out[1..], &numbers) + 1;
     out[k] = b'\n';
     Ok(len)
+}
+
+impl Row<'_> {
+    /// Writes the row again. Of a row that was handed out of a slip, the bytes written are those of its line in the slip,
+    /// and nothing but a short buffer is refused.
+    pub fn write(&self, out: &mut [u8]) -> Result<usize, WriteFault>
+        ensures answer { λ r. ⌜ Cases r (λ n. Written (letter-byte (now (self .entry) .values .letter)) (numbers (now (self .entry) .values)) (now (out .entry)) (now (out .exit)) n) (λ f. Unwritten (letter-byte (now (self .entry) .values .letter)) (numbers (now (self .entry) .values)) (length (now (out .entry))) f × (now (out .exit) ≡ now (out .entry))) ⌝ }
+        ensures same { λ r. ⌜ ((slip : List ℕ) → Handed slip (row-seen (now (self .entry))) → SameBytes (now (self .entry)) slip r (now (out .exit))) ⌝ }
+    {
+        let letter = char::from(self.values.letter.byte());
+        write_row(letter, self.values.numbers(), out)
+    }
 }

@@ -9,8 +9,8 @@ use Rattle.std.specs.shelf.Lists.{between}
 use Rattle.std.specs.shelf.Text.{allDigits}
 use Rattle.std.proofs.shelf.Results.{cases-weaker}
 use Rattle.std.proofs.shelf.Tests.{and-parts, and-from}
-use Rattle.slips.specs.Rules.{digits-after}
 use Rattle.slips.proofs.Decimal.{digits-none, after-none, digits-first, after-first, after-grows}
+use Rattle.slips.specs.Inner.{digits-after}
 use Rattle.slips.proofs.digits.+more.Needs as need
 
 pub returns-in-empty : need.returns-in-empty
@@ -18,14 +18,14 @@ returns-in-empty t c =
     let h : length (c .args .digits .now) < 1 = search needs in
     (digits-none (c .args .digits .now) h, sym (after-none (c .args .so-far) (c .args .digits .now) h), c .pre)
 
-pub returns-then-next-gt-MOST : need.returns-then-next-gt-MOST
-returns-then-next-gt-MOST t c =
+pub returns-then-not-fits : need.returns-then-not-fits
+returns-then-not-fits t c =
     let xs = c .args .digits .now in
     let some : 0 < length xs = search needs in
     (refl, λ d. omega (arith, after-first (c .args .so-far) xs some, after-grows (between 1 (length xs) xs) (c .args .so-far * 10 + (getD xs 0 0 - 48))))
 
-pub returns-else-next-gt-MOST : need.returns-else-next-gt-MOST
-returns-else-next-gt-MOST t c =
+pub returns-else-not-fits : need.returns-else-not-fits
+returns-else-not-fits t c =
     let xs = c .args .digits .now in
     let rest = between 1 (length xs) xs in
     let some : 0 < length xs = search needs in

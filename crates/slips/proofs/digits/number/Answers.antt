@@ -5,7 +5,8 @@ use Prim.Native.Nat.{ℕ, _<_, _≤_}
 use lib.ListN.{length, getD}
 use Rattle.std.proofs.shelf.Results.{cases-weaker}
 use Rattle.slips.specs.Format.{most}
-use Rattle.slips.specs.Rules.{Number, IsNumber, digits-after}
+use Rattle.slips.specs.Rules.{Number, IsNumber}
+use Rattle.slips.specs.Inner.{digits-after}
 use Rattle.slips.proofs.Decimal.{number-digits, digits-number}
 use Rattle.slips.proofs.digits.number.Needs as need
 

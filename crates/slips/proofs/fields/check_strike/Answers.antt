@@ -8,8 +8,8 @@ use Rattle.slips.specs.declared.rows.Letter.the-variants.{Strike}
 use Rattle.slips.specs.declared.faults.Cause.the-variants.{NotZero}
 use Rattle.slips.specs.Causes.{row-fault}
 use Rattle.slips.specs.Format.{numbers}
-use Rattle.slips.specs.Parts.{bytes-of, parts-seen}
 use Rattle.slips.specs.Rules.{FirstNonzero}
+use Rattle.slips.specs.Inner.{bytes-of, parts-seen}
 use Rattle.slips.proofs.Faulty.{strike-at, place-is}
 use Rattle.slips.proofs.fields.check_strike.Needs as need
 

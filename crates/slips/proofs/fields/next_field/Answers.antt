@@ -5,9 +5,9 @@ use mathlib.Core.List.{List, [], _∷_, _++_}
 use Prim.Native.Nat.{ℕ, _+_}
 use lib.ListN.{length}
 use Rattle.std.proofs.shelf.Lists.{length-append}
-use Rattle.slips.specs.Rules.{count}
 use Rattle.slips.proofs.Marks.{count-free, count-here, count-append, count-cut, length-cut}
 use Rattle.slips.proofs.fields.next_field.Needs as need
+use Rattle.slips.specs.Inner.{count}
 
 pub unreachable-requires : need.unreachable-requires
 unreachable-requires c κs = omega (arith, count-free 44 (c .args .rest .bytes .now) (c .in-rest .ensures tt), c .pre .comma)

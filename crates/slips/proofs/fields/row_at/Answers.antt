@@ -7,8 +7,8 @@ use lib.ListN.{length, take}
 use Rattle.std.specs.Written.{decimal}
 use Rattle.std.proofs.shelf.Results.{cases-at-ok}
 use Rattle.slips.specs.Format.{Proper, numbers, row-text}
-use Rattle.slips.specs.Layout.{Text, laid, shifted}
-use Rattle.slips.specs.Parts.{parts-seen, field-seen}
+use Rattle.slips.specs.Layout.{Text, laid, field-seen}
+use Rattle.slips.specs.Inner.{shifted, parts-seen}
 use Rattle.slips.proofs.Finding.{row-found, on-line-ok}
 use Rattle.slips.proofs.fields.row_at.Needs as need
 

@@ -3,8 +3,8 @@ use borrow.Author.Count.{below-none, below-more}
 use native.Mathlib.Omega.{arith}
 use mathlib.Core.Path.{_≡_, refl}
 use Rattle.std.proofs.shelf.Results.{err-from-errBy}
-use Rattle.slips.specs.Parts.{bytes-of, parts-seen}
 use Rattle.slips.proofs.Faulty.{bad-at}
+use Rattle.slips.specs.Inner.{bytes-of, parts-seen}
 use Rattle.slips.proofs.fields.values_of.Needs as need
 
 pub returns-in-Break-number-in : need.returns-in-Break-number-in

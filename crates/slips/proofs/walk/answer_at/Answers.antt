@@ -1,7 +1,7 @@
 use borrow.Author.Needs.{needs}
 use mathlib.Core.Path.{_≡_, refl}
 use Rattle.std.proofs.shelf.Results.{err-from-errBy}
-use Rattle.slips.specs.Seen.{outcome}
+use Rattle.slips.specs.Inner.{outcome}
 use Rattle.slips.proofs.walk.answer_at.Needs as need
 
 pub returns-in-Break-byte : need.returns-in-Break-byte

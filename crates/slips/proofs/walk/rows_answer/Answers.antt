@@ -19,7 +19,7 @@ returns-in-rest c =
     let slip = c .args .slip .now in
     let b = c .args .byte in
     let free : Free 10 (drop b slip) = subst (Free 10) (take-rest slip b) (c .in-rest .ensures tt) in
-    record { answer = faulty _ (unended (λ e. omega (arith, ap length e, length-drop b slip, c .if-byte-slip .left)) free refl) refl; after = tt }
+    record { answer = faulty _ (unended (λ e. omega (arith, ap length e, length-drop b slip, c .if-byte-slip .left)) free (c .of-line .ensures)) refl; after = tt }
 
 pub returns-in-Break-row : need.returns-in-Break-row
 returns-in-Break-row c =

@@ -4,7 +4,7 @@ use mathlib.Core.Path.{_≡_, refl, sym, ap, subst, _∙_}
 use Prim.Native.Nat.{ℕ, _≤_}
 use lib.ListN.{length, drop}
 use Rattle.slips.specs.Format.{most-bytes, names-line}
-use Rattle.slips.specs.Seen.{RowsAnswer, Answers, no-names, first, later}
+use Rattle.slips.specs.Seen.{a-fault, RowsAnswer, Answers, no-names, first, later}
 use Rattle.slips.proofs.Answering.{names-length}
 use Rattle.slips.proofs.walk.rows_start.Needs as need
 
@@ -27,4 +27,4 @@ pub returns-in-Err : need.returns-in-Err
 returns-in-Err c =
     let few : length (c .args .slip .now) ≤ most-bytes = search needs in
     let one : c .args .line ≡ 1 = search needs in
-    record { start = no-names (c .in-Err .cause) few one (c .in-Err .ensures tt) refl; counted = tt }
+    record { start = no-names (c .in-Err .cause) few one (c .in-Err .ensures tt) (ap a-fault (c .of-line-in-Err .ensures)); counted = tt }
