@@ -5,7 +5,7 @@ use lengths::sum_of;
 use std::test::*;
 
 /// Checks that `a` is less than `b`, in every call that compares.
-pub fn check_less<L: Length>(a: L, b: L) -> Result<(), Fail> {
+pub(crate) fn check_less<L: Length>(a: L, b: L) -> Result<(), Fail> {
     check(a.less(&b) && !b.less(&a))?;
     check(!a.less(&a) && !b.less(&b))?;
     check(!a.same(&b) && !b.same(&a))?;
@@ -15,12 +15,12 @@ pub fn check_less<L: Length>(a: L, b: L) -> Result<(), Fail> {
 }
 
 /// Checks that `all` is what the figures come to.
-pub fn check_sum<L: Length>(figures: &[L], all: L) -> Result<(), Fail> {
+pub(crate) fn check_sum<L: Length>(figures: &[L], all: L) -> Result<(), Fail> {
     check(sum_of(figures).same(&all))
 }
 
 /// Checks that the two figures come to `all`, in either order, and that zero adds nothing.
-pub fn check_plus<L: Length>(a: L, b: L, all: L) -> Result<(), Fail> {
+pub(crate) fn check_plus<L: Length>(a: L, b: L, all: L) -> Result<(), Fail> {
     check(a.plus(b).same(&all) && b.plus(a).same(&all))?;
     check(a.plus(L::zero()).same(&a) && L::zero().plus(a).same(&a))
 }

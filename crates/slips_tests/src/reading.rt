@@ -10,7 +10,7 @@ use std::alloc::Global;
 use std::test::*;
 
 /// Checks how many rows a slip has before its end or its first fault, and that fault.
-pub fn check_read(
+pub(crate) fn check_read(
     heap: Global,
     slip: &[u8],
     rows: usize,
