@@ -1,5 +1,4 @@
 pub mod Members
 pub mod Tables
 pub mod Steps
-pub mod Courses
-pub mod Counts
+pub mod Runs

@@ -6,7 +6,8 @@ use Rattle.books.specs.declared.edits.Edit.{Edit}
 use Rattle.books.specs.declared.edits.Edit.TheVariants.{Growth, Strike}
 use Rattle.books.specs.declared.edits.Answer.{Answer}
 use Rattle.books.specs.declared.edits.Answer.TheVariants as answers
-use Rattle.books.specs.declared.edits.Noted.{Noted}
+use Rattle.books.specs.declared.edits.Entry.{Entry}
+use Rattle.books.specs.declared.causes.Refused.{Refused}
 use Rattle.books.specs.declared.states.State.{State}
 use Rattle.books.specs.declared.states.State.TheVariants.{Blank, Struck, Standing}
 use Rattle.books.specs.Edits as edits
@@ -23,7 +24,7 @@ standing_as Struck h = let z : ◌≡◌ {A = ℕ} 0 1 = cc in absurd (omega ari
 standing_as (Standing p r d) h = (p, (r, (d, refl)))
 
 -- what a list says of growths alone decides what hangs from what
-hangs_map : {K : Type 0} {h g : List (Noted K)} {q t : ℕ} → ((u p : ℕ) (r d : K) → Grew h u p r d → Grew g u p r d) → HangsBy h q t → HangsBy g q t
+hangs_map : {K : Type 0} {h g : List (Entry K)} {q t : ℕ} → ((u p : ℕ) (r d : K) → Grew h u p r d → Grew g u p r d) → HangsBy h q t → HangsBy g q t
 hangs_map f (edits.child m) = edits.child (f _ _ _ _ m)
 hangs_map f (edits.under m c) = edits.under (f _ _ _ _ m) (hangs_map f c)
 
@@ -31,7 +32,7 @@ hangs_map f (edits.under m c) = edits.under (f _ _ _ _ m) (hangs_map f c)
 module _ {K : Type 0} where
   same_growth : {t p u q : ℕ} {r d a b : K} → accepted (Growth t p r d) ≡ accepted (Growth u q a b) → (t ≡ u) × (p ≡ q) × (r ≡ a) × (d ≡ b)
   same_growth {t} {p} {u} {q} {r} {d} {a} {b} e =
-      let f : Growth t p r d ≡ Growth u q a b = ap (λ (x : Noted K). x.edit) e in
+      let f : Growth t p r d ≡ Growth u q a b = ap (λ (x : Entry K). x.edit) e in
       let f1 : t ≡ u = cc in
       let f2 : p ≡ q = cc in
       let f3 : r ≡ a = cc in
@@ -42,11 +43,11 @@ module _ {K : Type 0} where
   as_growth {t} {p} {u} {q} {r} {d} {a} {b} e f g h = let x : Growth t p r d ≡ Growth u q a b = cc in ap accepted x
 
   same_strike : {s t : ℕ} → accepted {K = K} (Strike s) ≡ accepted (Strike t) → s ≡ t
-  same_strike {s} {t} e = let f : Strike s ≡ Strike t = ap (λ (x : Noted K). x.edit) e in cc
+  same_strike {s} {t} e = let f : Strike s ≡ Strike t = ap (λ (x : Entry K). x.edit) e in cc
 
   no_strike : {t p s : ℕ} {r d : K} → accepted (Growth t p r d) ≡ accepted (Strike s) → ⊥
   no_strike {t} {p} {s} {r} {d} e =
-      let f : Growth t p r d ≡ Strike s = ap (λ (x : Noted K). x.edit) e in
+      let f : Growth t p r d ≡ Strike s = ap (λ (x : Entry K). x.edit) e in
       let z : ◌≡◌ {A = ℕ} 0 1 = cc in omega arith
 
   stand_once : {p q : ℕ} {r d a b : K} → Standing p r d ≡ Standing q a b → (p ≡ q) × (r ≡ a) × (d ≡ b)
@@ -69,7 +70,7 @@ module _ {K : Type 0} where
   struck_blank e = let z : ◌≡◌ {A = ℕ} 0 1 = cc in omega arith
 
 -- what a list that led to these states says of the root, and of standing tags
-module _ {K : Type 0} {k : Figures K} {h : List (Noted K)} {s : ℕ → State K} (led : Led k h s) where
+module _ {K : Type 0} {k : Figures K} {h : List (Entry K)} {s : ℕ → State K} (led : Led k h s) where
   root_ungrown : (p : ℕ) (r d : K) → Grew h 1 p r d → ⊥
   root_ungrown p r d m = let a = led.orderly.above 1 p r d m in omega arith
 
@@ -117,7 +118,7 @@ module _ {K : Type 0} {k : Figures K} {h : List (Noted K)} {s : ℕ → State K}
   ]
 
 -- lists with the same accepted edits lead to the same states
-module _ {K : Type 0} {k : Figures K} {h g : List (Noted K)} {s t : ℕ → State K} (to : (x : Edit K) → Among (accepted x) h → Among (accepted x) g) (from : (x : Edit K) → Among (accepted x) g → Among (accepted x) h) (same : Same s t) where
+module _ {K : Type 0} {k : Figures K} {h g : List (Entry K)} {s t : ℕ → State K} (to : (x : Edit K) → Among (accepted x) h → Among (accepted x) g) (from : (x : Edit K) → Among (accepted x) g → Among (accepted x) h) (same : Same s t) where
   alike : Led k h s → Led k g t
   alike led = record {
     orderly = record {
@@ -136,13 +137,16 @@ module _ {K : Type 0} {k : Figures K} {h g : List (Noted K)} {s t : ℕ → Stat
     };
   }
 
--- an edit that was not accepted adds nothing
-pub unaccepted_step : {K : Type 0} {k : Figures K} (h : List (Noted K)) (s t : ℕ → State K) (e : Edit K) (a : Answer) → (answers.Accepted ≡ a → ⊥) → Same s t → Led k h s → Led k (h ++ record { edit = e; answer = a } ∷ []) t
-unaccepted_step {K} h s t e a n same led =
-    alike (λ x m. among_more _ m) (λ x m. elim (among_cases h _ m) [ inl b ↦ b | inr q ↦ absurd (n (ap (λ (y : Noted K). y.answer) q)) ]) same led
+-- an entry that was not accepted adds nothing
+pub refused_step : {K : Type 0} {k : Figures K} (h : List (Entry K)) (s t : ℕ → State K) (e : Edit K) (f : Refused) → Same s t → Led k h s → Led k (h ++ record { edit = e; answer = answers.Refused f } ∷ []) t
+refused_step {K} h s t e f same led =
+    alike (λ x m. among_more _ m) (λ x m. elim (among_cases h _ m) [ inl a ↦ a | inr q ↦ absurd (apart x q) ]) same led
+  where
+    apart : (x : Edit K) → accepted x ≡ record { edit = e; answer = answers.Refused f } → ⊥
+    apart x q = let a : answers.Accepted ≡ answers.Refused f = ap (λ (y : Entry K). y.answer) q in let z : ◌≡◌ {A = ℕ} 0 1 = cc in omega arith
 
 -- an accepted growth
-module _ {K : Type 0} {k : Figures K} {size : ℕ} {h : List (Noted K)} {s s' : ℕ → State K} {tag parent : ℕ} {run drop : K} (led : Led k h s) (may : MayGrow k size s tag parent run drop) (grown : Grown s s' tag (Standing parent run drop)) where
+module _ {K : Type 0} {k : Figures K} {size : ℕ} {h : List (Entry K)} {s s' : ℕ → State K} {tag parent : ℕ} {run drop : K} (led : Led k h s) (may : MayGrow k size s tag parent run drop) (grown : Grown s s' tag (Standing parent run drop)) where
   grew_cases : {t p : ℕ} {r d : K} → Grew (h ++ accepted (Growth tag parent run drop) ∷ []) t p r d → Grew h t p r d ⊎ ((t ≡ tag) × (p ≡ parent) × (r ≡ run) × (d ≡ drop))
   grew_cases m = elim (among_cases h _ m) [ inl a ↦ inl a | inr e ↦ inr (same_growth e) ]
 
@@ -237,7 +241,7 @@ module _ {K : Type 0} {k : Figures K} {size : ℕ} {h : List (Noted K)} {s s' : 
   }
 
 -- an accepted strike
-module _ {K : Type 0} {k : Figures K} {size : ℕ} {h : List (Noted K)} {s s' : ℕ → State K} {tag : ℕ} (led : Led k h s) (may : MayStrike size s tag) (out : StruckOut s s' tag) where
+module _ {K : Type 0} {k : Figures K} {size : ℕ} {h : List (Entry K)} {s s' : ℕ → State K} {tag : ℕ} (led : Led k h s) (may : MayStrike size s tag) (out : StruckOut s s' tag) where
   grew_back : {t p : ℕ} {r d : K} → Grew (h ++ accepted (Strike tag) ∷ []) t p r d → Grew h t p r d
   grew_back m = elim (among_cases h _ m) [ inl a ↦ a | inr e ↦ absurd (no_strike e) ]
 

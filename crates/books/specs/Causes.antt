@@ -19,16 +19,15 @@ refusal_number ParentBlank = 7
 refusal_number ParentStruck = 8
 refusal_number TagBlank = 9
 
--- a table of causes (nothing to do with the table book), in the order in which they are checked: whether each holds, and the refusal that it is
+-- a table of causes, in the order in which they are checked: whether each holds, and the refusal that it is
 abbrev pub Table : Type 0
 Table = List (Bool × Refusal)
 
--- one cause, before the others: its refusal where it holds
+-- the first cause of a table that holds
 abbrev pub pick : Bool → Refusal → Option Refusal → Option Refusal
 pick true r o = Some r
 pick false r o = o
 
--- the first cause of a table that holds
 abbrev pub first_cause : Table → Option Refusal
 first_cause [] = None
 first_cause (c ∷ cs) = pick c.0 c.1 (first_cause cs)

@@ -1,7 +1,4 @@
 // Edits, and what each was answered.
-ghost use Rattle.std.specs.Prelude.{◌≡◌};
-ghost use Rattle.books.specs.Edits.{answer_number};
-
 use crate::causes::Refused;
 
 /// An edit: the growth of a tag, or the strike of one.
@@ -26,22 +23,9 @@ pub enum Answer {
     Refused(Refused),
 }
 
-impl Answer {
-    /// The number of this answer: 0 for accepted, else the number of the refusal; 255 where there is none yet.
-    pub fn number(self) -> u8
-        ensures { result ≡ answer_number self }
-    {
-        match self {
-            Answer::Waiting => 255,
-            Answer::Accepted => 0,
-            Answer::Refused(refused) => refused.cause.number(),
-        }
-    }
-}
-
-/// An edit with what it was answered.
+/// An edit with its answer.
 #[derive(Clone, Copy)]
-pub struct Noted<K> {
+pub struct Entry<K> {
     pub edit: Edit<K>,
     pub answer: Answer,
 }

@@ -10,7 +10,7 @@ mod states;
 
 pub use applying::{apply, attempt};
 pub use causes::{Refusal, Refused};
-pub use edits::{Answer, Edit, Noted};
+pub use edits::{Answer, Edit, Entry};
 pub use interface::Book;
 pub use judging::{answer_with, growth_cause, look_cause, strike_cause};
 pub use states::State;

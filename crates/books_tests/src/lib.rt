@@ -1,4 +1,4 @@
-//! Tests of the crates `books`, `tables` and `logs`, through their public names alone.
+//! Tests of the crates `books` and `tables`, through their public names alone.
 
 #[cfg(test)]
 mod edges;

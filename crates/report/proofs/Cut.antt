@@ -7,7 +7,7 @@ use Rattle.slips.specs.declared.rows.Values.{Values}
 use Rattle.slips.specs.Format.{most_bytes}
 use Rattle.slips.specs.Rules as rules
 use Rattle.slips.specs.Rules.{Holds}
-use Rattle.report.specs.Reports.{Reported}
+use Rattle.report.specs.Lines.{Reported}
 
 -- what is too long is so whatever follows
 long : (cut input : List ℕ) (vs : List Values) (o : Option Fault) → most_bytes < length cut → most_bytes < length input → Holds cut vs o → Holds input vs o
@@ -24,4 +24,4 @@ holds input vs o h =
     ]
 
 pub cut_enough : (input text : List ℕ) → Reported (take 65537 input) text → Reported input text
-cut_enough input text r = record { rows = r.rows; fault = r.fault; holds = holds input r.rows r.fault r.holds; in_m = r.in_m; in_c = r.in_c; tried_m = r.tried_m; tried_c = r.tried_c; lines = r.lines }
+cut_enough input text r = record { rows = r.rows; fault = r.fault; holds = holds input r.rows r.fault r.holds; lines = r.lines }

@@ -1,40 +1,54 @@
-//! The report: what the program prints of a slip, as text. Every row is done in two books, in kind M and in kind C, and the
-//! text tells what each answered. The program itself only reads its input and prints this.
-ghost use Rattle.std.specs.Prelude.{◌≡◌, ℕ, List, take, IfOk, string_bytes};
-ghost use Rattle.report.specs.Reports.{Reported};
+//! The report: what the program prints of a slip, as text. The program itself only reads its input and prints this.
+ghost use Rattle.std.specs.Prelude.{◌≡◌, ℕ, List, ◌++◌, take, IfOk, string_bytes, OnOk};
+ghost use Rattle.std.specs.List.{flat_map};
+ghost use Rattle.report.specs.Lines.{line_text, fault_text, Reported};
 
-use crate::asking::waiting;
-use crate::lines::{put_fault, put_rows};
-use crate::trying::{try_in_log, try_in_table};
-use lengths::{KindC, KindM};
-use slips::{Contents, read_slip};
+use slips::{Contents, Fault, Row, read_slip};
 use std::alloc::{AllocError, Global};
 
-mod asking;
-mod lines;
-mod trying;
+/// Adds one line to a report: a line of the slip and what it was answered.
+fn put_line(heap: Global, text: &mut String, line: usize, answer: u8) -> Result<(), AllocError>
+    ensures { OnOk result (string_bytes text.new ≡ string_bytes text.old ++ line_text line answer) }
+{
+    let added = format!(in heap; "{line},{answer}\n")?;
+    text.push_str(added.as_str())
+}
 
-/// The report of a slip: a heading; each row's line with the number of its answer in kind M and in kind C; and where the slip
-/// has a fault, its line, with its number for both. Or an error where memory runs out, of which nothing more is promised.
+/// Adds a line for each row, answered 0.
+fn put_rows(heap: Global, text: &mut String, rows: &[Row<'_>]) -> Result<(), AllocError>
+    ensures { OnOk result (string_bytes text.new ≡ string_bytes text.old ++ flat_map (λ w. line_text w.line 0) rows.now) }
+{
+    for row in rows {
+        put_line(heap, text, row.line, 0)?;
+    }
+    Ok(())
+}
+
+/// Adds a line for the fault, answered by its number, where there is one.
+fn put_fault(heap: Global, text: &mut String, fault: Option<Fault>) -> Result<(), AllocError>
+    ensures { OnOk result (string_bytes text.new ≡ string_bytes text.old ++ fault_text fault) }
+{
+    match fault {
+        None => Ok(()),
+        Some(fault) => put_line(heap, text, fault.line, fault.cause.number()),
+    }
+}
+
+/// The report of a slip: a heading, each row's line with 0, and where the slip has a fault, its line and number.
 pub fn slip_report(heap: Global, slip: &[u8]) -> Result<String, AllocError>
     ensures answer { IfOk result (λ t. Reported slip.now (string_bytes t)) }
     ensures only { IfOk result (λ t. (other : List ℕ) → Reported slip.now other → other ≡ string_bytes t) }
 {
     let Contents { rows, fault } = read_slip(heap, slip)?;
-    let mut in_m = waiting::<KindM>(heap, rows.as_slice())?;
-    let mut in_c = waiting::<KindC>(heap, rows.as_slice())?;
-    try_in_table(in_m.as_mut_slice());
-    try_in_log(in_c.as_mut_slice());
-    let mut text = String::from_str(heap, "line,M,C\n")?;
-    put_rows(heap, &mut text, in_m.as_slice(), in_c.as_slice())?;
+    let mut text = String::from_str(heap, "line,slip\n")?;
+    put_rows(heap, &mut text, rows.as_slice())?;
     put_fault(heap, &mut text, fault)?;
     Ok(text)
 }
 
 /// How many bytes of an input are enough for its report: of a longer input they are reported as all of it would be.
 pub fn enough() -> u64
-    ensures bytes { result ≡ 65537 }
-    ensures enough { (input text : List ℕ) → Reported (take result input) text → Reported input text }
+    ensures { (input text : List ℕ) → Reported (take result input) text → Reported input text }
 {
     65_537
 }

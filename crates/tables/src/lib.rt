@@ -2,6 +2,9 @@
 
 mod lent;
 mod opening;
+mod reading;
+mod rows;
 mod table;
 
 pub use lent::TableBook;
+pub use rows::Row;

@@ -1,10 +1,10 @@
-use Rattle.std.proofs.Common.{◌≡◌, ◌-◌, ◌<◌, length, sym, refl, ap, ◌∙◌, arith, rules}
+use Rattle.std.proofs.Common.{◌≡◌, ◌-◌, ◌<◌, length, sym, refl, ap, arith, rules}
 use Rattle.std.proofs.lemmas.List.{drop-set-lt}
 use Rattle.books.specs.declared.states.State.TheVariants.{Struck}
 use Rattle.books.specs.Causes.{answered}
 use Rattle.books.proofs.Tables.{may_strike}
-use Rattle.rows.specs.Rows.{row_of, extent_of, state_of}
-use Rattle.rows.proofs.Changes.{struck_rows, struck_sound, extent_same}
+use Rattle.tables.specs.Rows.{row_of, extent_of, state_of}
+use Rattle.tables.proofs.Changes.{struck_rows, struck_sound, extent_same}
 use Rattle.tables.proofs.table.TableBookBook.strike.Goals as goal
 
 pub offset-bounds-self-tag : goal.offset-bounds-self-tag
@@ -31,7 +31,6 @@ returns g c =
       answer = ap (answered c.args.tag tt) c.in-default.ensures;
       size = extent_same rows (c.args.tag - 2) Struck (omega (arith, m.low, m.high));
       states = struck_rows k rows c.args.tag c.args.self.now.kept m;
-      writes = (refl, refl);
-      refused = tt;
-      leaves = λ a h. (h.0, drop-set-lt 255 rows (c.args.tag - 2) (row_of (Struck)) (omega (arith, m.low, m.high)) ∙ h.1);
+      place = refl;
+      rest = drop-set-lt 255 rows (c.args.tag - 2) (row_of (Struck)) (omega (arith, m.low, m.high));
     }

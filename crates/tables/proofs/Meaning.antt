@@ -1,0 +1,97 @@
+-- What the rows mean, as equations: the root, tags outside the table, and what a row says of its tag.
+use Rattle.std.proofs.Common.{◌≡◌, ℕ, zero, suc, ◌+◌, ◌-◌, ◌<◌, ◌≤◌, Bool, true, false, cond, ◌&&◌, eqb, ltb, leb, ◌⊎◌, List, length, get_or, sym, refl, ap, ◌∙◌, subst, inl, inr, arith}
+use Rattle.std.proofs.lemmas.Bool.{cases_Bool, and_parts, and_from, and_left, and_right, leb-true, ltb-true, le-leb, lt-leb, ne_eqb, cond-true, cond-false}
+use Rattle.std.proofs.lemmas.List.{get_or_default}
+use Rattle.lengths.specs.Figures.{Figures, Less}
+use Rattle.books.specs.declared.states.State.{State}
+use Rattle.books.specs.declared.states.State.TheVariants.{Blank, Struck, Standing}
+use Rattle.books.specs.States.{stands}
+use Rattle.tables.specs.declared.rows.Row.{Row}
+use Rattle.tables.specs.Rows.{row_of, row_at, extent_of, fit, read, states, state_of}
+
+-- what fits
+pub record Fit {K : Type 0} (k : Figures K) (t p : ℕ) (run drop : K) : Type 0 where
+  pub above : 1 ≤ p
+  pub smaller : p < t
+  pub run_some : Less k k.zero run
+  pub run_entry : k.entry run ≡ true
+  pub drop_entry : k.entry drop ≡ true
+
+pub fit_parts : {K : Type 0} (k : Figures K) (t p : ℕ) (run drop : K) → fit k t p run drop ≡ true → Fit k t p run drop
+fit_parts k t p run drop h =
+    let a = and_parts (leb 1 p) _ h in
+    let b = and_parts (ltb p t) _ a.1 in
+    let c = and_parts (k.less k.zero run) _ b.1 in
+    let d = and_parts (k.entry run) (k.entry drop) c.1 in
+    record { above = leb-true 1 p a.0; smaller = ltb-true p t b.0; run_some = c.0; run_entry = d.0; drop_entry = d.1 }
+
+-- a row is read alike where the parent that it names has one state
+pub read_alike : {K : Type 0} (k : Figures K) (t : ℕ) (f g : ℕ → State K) (s : State K) → ((p : ℕ) → 1 ≤ p → p < t → f p ≡ g p) → read k t f s ≡ read k t g s
+unfolding read
+read_alike k t f g Blank h = refl
+read_alike k t f g Struck h = refl
+read_alike {K} k t f g (Standing p run drop) h =
+    elim (cases_Bool (fit k t p run drop)) [
+      | inl y ↦ let a = fit_parts k t p run drop y in ap (λ (s : State K). cond (fit k t p run drop && stands s) (Standing p run drop) Struck) (h p a.above a.smaller)
+      | inr n ↦ cond-false _ _ _ (and_left (fit k t p run drop) (stands (f p)) n) ∙ sym (cond-false _ _ _ (and_left (fit k t p run drop) (stands (g p)) n))
+    ]
+
+module _ {K : Type 0} (k : Figures K) (rows : List (Row K)) where
+  -- enough looks are enough
+  enough : (f g t : ℕ) → 1 ≤ t → t ≤ f → t ≤ g → states k rows f t ≡ states k rows g t
+  unfolding states
+  enough zero g t low a b = absurd (omega arith)
+  enough (suc f) zero t low a b = absurd (omega arith)
+  enough (suc f) (suc g) t low a b =
+      ap (λ (s : State K). cond (eqb t 1) (Standing 0 k.zero k.zero) (cond (leb 2 t && leb t (extent_of rows)) s Blank))
+      (read_alike k t (states k rows f) (states k rows g) (row_at rows (t - 2)) (λ p up low'. enough f g p up (omega arith) (omega arith)))
+
+  pub state_root : state_of k rows 1 ≡ Standing 0 k.zero k.zero
+  unfolding state_of states
+  state_root = refl
+
+  pub state_none : state_of k rows 0 ≡ Blank
+  unfolding state_of states
+  state_none = refl
+
+  pub state_beyond : (t : ℕ) → extent_of rows < t → state_of k rows t ≡ Blank
+  unfolding state_of states
+  state_beyond zero h = absurd (omega arith)
+  state_beyond (suc n) h = rw (ne_eqb (suc n) 1 (λ e. omega arith), le-leb 2 (suc n) (omega arith), lt-leb (suc n) (extent_of rows) h)
+
+  pub state_row : (t : ℕ) → 2 ≤ t → t ≤ extent_of rows → state_of k rows t ≡ read k t (state_of k rows) (row_at rows (t - 2))
+  unfolding state_of states
+  state_row zero a b = absurd (omega arith)
+  state_row (suc n) a b =
+      rw (ne_eqb (suc n) 1 (λ e. omega arith), le-leb 2 (suc n) a, le-leb (suc n) (extent_of rows) b)
+      (read_alike k (suc n) (states k rows n) (state_of k rows) (row_at rows (suc n - 2)) (λ p up low. enough n p p up (omega arith) (omega arith)))
+
+  -- from what a row was found to say
+  pub said : (t : ℕ) (s : State K) (d : Row K) → 2 ≤ t → t ≤ extent_of rows → (get_or rows (t - 2) d).state ≡ s → read k t (state_of k rows) s ≡ state_of k rows t
+  said t s d a b e =
+      ap (read k t (state_of k rows)) (sym e ∙ ap (λ (r : Row K). r.state) (get_or_default rows (t - 2) d (row_of Blank) (omega arith)))
+      ∙ sym (state_row t a b)
+
+  pub state_low : (t : ℕ) → t < 2 → (t ≡ 1 → ⊥) → state_of k rows t ≡ Blank
+  state_low t a n = ap (state_of k rows) (omega arith) ∙ state_none
+
+-- a row that says that its tag stands is believed, or not
+pub read_stands : {K : Type 0} (k : Figures K) (t : ℕ) (up : ℕ → State K) (p : ℕ) (run drop : K) → fit k t p run drop ≡ true → stands (up p) ≡ true → Standing p run drop ≡ read k t up (Standing p run drop)
+unfolding read
+read_stands k t up p run drop a b = sym (cond-true _ _ _ (and_from _ _ a b))
+
+pub read_unfit : {K : Type 0} (k : Figures K) (t : ℕ) (up : ℕ → State K) (p : ℕ) (run drop : K) → fit k t p run drop ≡ false → Struck ≡ read k t up (Standing p run drop)
+unfolding read
+read_unfit k t up p run drop a = sym (cond-false _ _ _ (and_left (fit k t p run drop) (stands (up p)) a))
+
+pub read_fallen : {K : Type 0} (k : Figures K) (t : ℕ) (up : ℕ → State K) (p : ℕ) (run drop : K) → stands (up p) ≡ false → Struck ≡ read k t up (Standing p run drop)
+unfolding read
+read_fallen k t up p run drop a = sym (cond-false _ _ _ (and_right (fit k t p run drop) (stands (up p)) a))
+
+pub read_blank : {K : Type 0} (k : Figures K) (t : ℕ) (up : ℕ → State K) → Blank ≡ read k t up Blank
+unfolding read
+read_blank k t up = refl
+
+pub read_struck : {K : Type 0} (k : Figures K) (t : ℕ) (up : ℕ → State K) → Struck ≡ read k t up Struck
+unfolding read
+read_struck k t up = refl

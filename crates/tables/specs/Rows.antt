@@ -1,0 +1,48 @@
+-- What rows say of each tag.
+use Rattle.std.specs.Prelude.{◌≡◌, ℕ, zero, suc, ◌+◌, ◌-◌, ◌<◌, min, Bool, true, false, cond, not, ◌&&◌, ◌||◌, List, length, ◌==◌, nat_le, nat_lt, slice_index_or}
+use Rattle.lengths.specs.Figures.{Figures}
+use Rattle.books.specs.declared.states.State.{State}
+use Rattle.books.specs.declared.states.State.TheVariants.{Blank, Struck, Standing}
+use Rattle.books.specs.States.{is_blank, stands}
+use Rattle.tables.specs.declared.rows.Row.{Row}
+
+abbrev pub row_of : {K : Type 0} → State K → Row K
+row_of s = record { state = s }
+
+-- what the row at index i says, and blank past the last row
+abbrev pub row_at : {K : Type 0} → List (Row K) → ℕ → State K
+row_at rows i = (slice_index_or rows i (row_of Blank)).state
+
+-- the size: 1 plus the smaller of 255 and the number of rows
+abbrev pub extent_of : {K : Type 0} → List (Row K) → ℕ
+extent_of rows = 1 + min 255 (length rows)
+
+-- the tag t may stand with this parent, run and drop, as far as they go
+abbrev pub fit : {K : Type 0} → Figures K → ℕ → ℕ → K → K → Bool
+fit k t p run drop = nat_le 1 p && (nat_lt p t && (k.less k.zero run && (k.entry run && k.entry drop)))
+
+-- what a row says of the tag t, where the tags before it have the states up: standing only on a parent that stands
+unfoldable pub read : {K : Type 0} → Figures K → ℕ → (ℕ → State K) → State K → State K
+read k t up Blank = Blank
+read k t up Struck = Struck
+read k t up (Standing p run drop) = cond (fit k t p run drop && stands (up p)) (Standing p run drop) Struck
+
+-- the state of the tag t, and the number n bounds how often a parent is looked up
+unfoldable pub states : {K : Type 0} → Figures K → List (Row K) → ℕ → ℕ → State K
+states k rows zero t = Blank
+states k rows (suc n) t =
+    cond (t == 1) (Standing 0 k.zero k.zero)
+    (cond (nat_le 2 t && nat_le t (extent_of rows)) (read k t (states k rows n) (row_at rows (t - 2))) Blank)
+
+-- a parent is smaller than its tag, so that t looks are enough
+unfoldable pub state_of : {K : Type 0} → Figures K → List (Row K) → ℕ → State K
+state_of k rows t = states k rows t t
+
+-- a row that says that a tag stands names a parent whose row is not blank
+abbrev pub sound : {K : Type 0} → List (Row K) → State K → Bool
+sound rows Blank = true
+sound rows Struck = true
+sound rows (Standing p run drop) = nat_lt p 2 || not (is_blank (row_at rows (p - 2)))
+
+abbrev pub Kept : {K : Type 0} → List (Row K) → Type 0
+Kept rows = (i : ℕ) → i < 255 → sound rows (row_at rows i) ≡ true
