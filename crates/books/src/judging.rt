@@ -16,7 +16,7 @@ pub fn growth_cause<K: Length>(
     at: State<K>,
     up: State<K>,
 ) -> Option<Refusal>
-    ensures { result ≡ first_cause (growth_causes figures size at up tag parent run drop) }
+    ensures { result ≡ first_cause (growth_causes K.figures size at up tag parent run drop) }
 {
     if tag < 2 || tag > size {
         return Some(Refusal::OutOfRange);

@@ -8,9 +8,9 @@ use crate::interface::Length;
 /// What figures come to, added one after another. Of entries within the bound the order does not matter: added from
 /// the last one backwards they come to the same, and that is a sum of as many entries as there are.
 pub fn sum_of<L: Length>(xs: &[L]) -> L
-    ensures value { result ≡ added figures figures.zero xs.now }
-    ensures backwards { All (λ x. figures.entry x ≡ true) xs.now → length xs.now ≤ most_entries → result ≡ total figures xs.now }
-    ensures entries { All (λ x. figures.entry x ≡ true) xs.now → Sum figures (length xs.now) result }
+    ensures value { result ≡ added L.figures L.figures.zero xs.now }
+    ensures backwards { All (λ x. L.figures.entry x ≡ true) xs.now → length xs.now ≤ most_entries → result ≡ total L.figures xs.now }
+    ensures entries { All (λ x. L.figures.entry x ≡ true) xs.now → Sum L.figures (length xs.now) result }
 {
     let mut all = L::zero();
     for x in xs {
@@ -21,8 +21,8 @@ pub fn sum_of<L: Length>(xs: &[L]) -> L
 
 /// The larger of two figures: one of them, and neither is more.
 pub fn larger<L: Length>(a: L, b: L) -> L
-    ensures value { result ≡ (if figures.less a b then b else a) }
-    ensures most { AtMost figures a result × AtMost figures b result }
+    ensures value { result ≡ (if L.figures.less a b then b else a) }
+    ensures most { AtMost L.figures a result × AtMost L.figures b result }
 {
     if a.less(&b) { b } else { a }
 }

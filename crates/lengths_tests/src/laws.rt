@@ -5,14 +5,14 @@ use lengths::{Length, kind_c};
 
 /// Whether `a` and `b` compare as they do after `c` was added to both: always, of entries.
 fn stays_less<L: Length>(a: L, b: L, c: L) -> bool
-    ensures { figures.entry a ≡ true → figures.entry b ≡ true → figures.entry c ≡ true → result ≡ true }
+    ensures { L.figures.entry a ≡ true → L.figures.entry b ≡ true → L.figures.entry c ≡ true → result ≡ true }
 {
     a.plus(c).less(&b.plus(c)) == a.less(&b)
 }
 
 /// Whether three figures come to the same in another order and bracketing: always, of entries.
 fn adds_alike<L: Length>(a: L, b: L, c: L) -> bool
-    ensures { figures.entry a ≡ true → figures.entry b ≡ true → figures.entry c ≡ true → result ≡ true }
+    ensures { L.figures.entry a ≡ true → L.figures.entry b ≡ true → L.figures.entry c ≡ true → result ≡ true }
 {
     a.plus(b).plus(c).same(&c.plus(b.plus(a)))
 }

@@ -21,7 +21,7 @@ fn extent_of<K>(entries: &[Edit<K>]) -> u32
 /// The state of a tag: the edits kept are replayed once, and the rows that they come to are read from the tag up to the root.
 /// So a look costs steps by the number of edits kept.
 fn state_in<K: Length>(book: &LogBook<'_, K>, tag: u32) -> State<K>
-    ensures { result ≡ log_state figures book.now.entries.now book.now.used tag }
+    ensures { result ≡ log_state K.figures book.now.entries.now book.now.used tag }
 {
     let mut room = [0usize; 255];
     let marks = &mut room[..extent_of(book.entries) as usize - 1];
@@ -39,7 +39,7 @@ fn against_growth<K: Length>(
     run: K,
     drop: K,
 ) -> Option<Refusal>
-    ensures { result ≡ first_cause (growth_causes figures (extent_of book.now.entries.now) (log_state figures book.now.entries.now book.now.used tag) (log_state figures book.now.entries.now book.now.used parent) tag parent run drop) }
+    ensures { result ≡ first_cause (growth_causes K.figures (extent_of book.now.entries.now) (log_state K.figures book.now.entries.now book.now.used tag) (log_state K.figures book.now.entries.now book.now.used parent) tag parent run drop) }
 {
     let at = state_in(book, tag);
     let up = state_in(book, parent);
@@ -48,7 +48,7 @@ fn against_growth<K: Length>(
 
 /// The first cause against a strike.
 fn against_strike<K: Length>(book: &LogBook<'_, K>, tag: u32) -> Option<Refusal>
-    ensures { result ≡ first_cause (strike_causes (extent_of book.now.entries.now) (log_state figures book.now.entries.now book.now.used tag) tag) }
+    ensures { result ≡ first_cause (strike_causes (extent_of book.now.entries.now) (log_state K.figures book.now.entries.now book.now.used tag) tag) }
 {
     strike_cause(extent_of(book.entries), tag, state_in(book, tag))
 }

@@ -11,9 +11,9 @@ impl<'a, K: Length> LogBook<'a, K> {
     /// Opens a new book on entries of any number and content. It keeps no edit yet, and all entries keep their content.
     pub fn open(entries: &'a mut [Edit<K>]) -> LogBook<'a, K>
         ensures size { extent_of result.entries.now ≡ 1 + min 255 (length entries.old / 2) }
-        ensures new { New figures (log_state figures result.entries.now result.used) }
+        ensures new { New K.figures (log_state K.figures result.entries.now result.used) }
         ensures log { result.used ≡ 0 }
-        ensures replays { Replays figures result.entries.now result.used }
+        ensures replays { Replays K.figures result.entries.now result.used }
         ensures place { result.entries.ghost_name ≡ entries.entry.ghost_name }
         ensures rest { result.entries.now ≡ entries.old }
     {

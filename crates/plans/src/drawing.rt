@@ -33,7 +33,7 @@ fn parent_of<K: Copy>(state: State<K>) -> u32
 
 /// The run and the drop that a state gives; zero where it does not stand.
 fn lengths_of<K: Length>(state: State<K>) -> (K, K)
-    ensures { (result.0 ≡ run_of figures state) × (result.1 ≡ drop_of figures state) }
+    ensures { (result.0 ≡ run_of K.figures state) × (result.1 ≡ drop_of K.figures state) }
 {
     match state {
         State::Standing { run, drop, .. } => (run, drop),

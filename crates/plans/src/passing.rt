@@ -11,7 +11,7 @@ use lengths::Length;
 /// One tag of the pass downwards: where both ways up meet it, what is beyond it is put down, and its run is added to that.
 fn down_at<K: Length>(runs: &Column<K>, met: bool, tag: usize, beyond: K, memory: &mut [K]) -> K
     requires { (1 ≤ tag) × (tag ≤ length memory.old) }
-    ensures beyond { result ≡ (if met then figures.sum (held runs.now (tag - 1)) beyond else beyond) }
+    ensures beyond { result ≡ (if met then K.figures.sum (held runs.now (tag - 1)) beyond else beyond) }
     ensures memory { memory.new ≡ (if met then slice_set memory.old (tag - 1) beyond else memory.old) }
 {
     if !met {
@@ -30,7 +30,7 @@ pub(crate) fn pass_down<K: Length>(
     memory: &mut [K],
 )
     requires { (size ≤ 256) × (size ≤ length memory.old) }
-    ensures common { (T : Tree figures) (a b : ℕ) (parents : List ℕ) → Given T a b size parents (held runs.now) one.now two.now → (t : ℕ) → 1 ≤ t → t ≤ size → side T t a ≡ true → side T t b ≡ true → slice_index_or memory.new (t - 1) figures.zero ≡ selected T (λ e. (side T e a && side T e b) && nat_lt t e) }
+    ensures common { (T : Tree K.figures) (a b : ℕ) (parents : List ℕ) → Given T a b size parents (held runs.now) one.now two.now → (t : ℕ) → 1 ≤ t → t ≤ size → side T t a ≡ true → side T t b ≡ true → slice_index_or memory.new (t - 1) K.figures.zero ≡ selected T (λ e. (side T e a && side T e b) && nat_lt t e) }
     ensures long { length memory.new ≡ length memory.old }
     ensures rest { after size memory.new ≡ after size memory.old }
 {
@@ -54,7 +54,7 @@ fn up_at<K: Length>(
     memory: &mut [K],
 )
     requires { (1 ≤ tag) × (tag ≤ length memory.old) × (parent ≤ length memory.old) }
-    ensures { memory.new ≡ up_to figures memory.old parent one two tag (held runs.now (tag - 1)) }
+    ensures { memory.new ≡ up_to K.figures memory.old parent one two tag (held runs.now (tag - 1)) }
 {
     if parent == 0 {
         return;
@@ -80,7 +80,7 @@ pub(crate) fn pass_up<K: Length>(
     memory: &mut [K],
 )
     requires { Falling parents.now × (size ≤ 256) × (size ≤ length memory.old) }
-    ensures near { (T : Tree figures) (a b : ℕ) → Given T a b size parents.now (held runs.now) one.now two.now → ((t : ℕ) → 1 ≤ t → t ≤ size → side T t a ≡ true → side T t b ≡ true → slice_index_or memory.old (t - 1) figures.zero ≡ selected T (λ e. (side T e a && side T e b) && nat_lt t e)) → (t : ℕ) → Stands T t → slice_index_or memory.new (t - 1) figures.zero ≡ nearest T t a b }
+    ensures near { (T : Tree K.figures) (a b : ℕ) → Given T a b size parents.now (held runs.now) one.now two.now → ((t : ℕ) → 1 ≤ t → t ≤ size → side T t a ≡ true → side T t b ≡ true → slice_index_or memory.old (t - 1) K.figures.zero ≡ selected T (λ e. (side T e a && side T e b) && nat_lt t e)) → (t : ℕ) → Stands T t → slice_index_or memory.new (t - 1) K.figures.zero ≡ nearest T t a b }
     ensures long { length memory.new ≡ length memory.old }
     ensures rest { after size memory.new ≡ after size memory.old }
 {

@@ -27,7 +27,7 @@ pub fn row_at<K: Copy>(rows: &[Row<K>], index: usize) -> State<K>
 
 /// Whether a tag may stand with this parent, run and drop, leaving aside whether the parent stands.
 fn fits<K: Length>(tag: u32, parent: u32, run: K, drop: K) -> bool
-    ensures { result ≡ fit figures tag parent run drop }
+    ensures { result ≡ fit K.figures tag parent run drop }
 {
     if parent < 1 || parent >= tag {
         return false;

@@ -37,7 +37,7 @@ impl<'a, K: Length> TableBook<'a, K> {
     /// Opens a new book on rows of any number and content. The rows after the first 255 keep their content.
     pub fn open(rows: &'a mut [Row<K>]) -> TableBook<'a, K>
         ensures size { extent_of result.rows.now ≡ 1 + min 255 (length rows.old) }
-        ensures new { New figures (state_of figures result.rows.now) }
+        ensures new { New K.figures (state_of K.figures result.rows.now) }
         ensures place { result.rows.ghost_name ≡ rows.entry.ghost_name }
         ensures rest { drop 255 result.rows.now ≡ drop 255 rows.old }
     {

@@ -17,7 +17,7 @@ pub(crate) fn size_of<K>(rows: &[Row<K>]) -> u32
 
 /// Whether a tag may stand with this parent, run and drop, as far as they go.
 fn fits<K: Length>(tag: u32, parent: u32, run: K, drop: K) -> bool
-    ensures { result ≡ fit figures tag parent run drop }
+    ensures { result ≡ fit K.figures tag parent run drop }
 {
     if parent < 1 || parent >= tag {
         return false;
@@ -38,7 +38,7 @@ fn is_standing<K: Copy>(state: State<K>) -> bool
 
 /// The state of a tag: what its row says, where the tag is one of the table's; a tag stands only while its parent stands.
 pub(crate) fn state_at<K: Length>(rows: &[Row<K>], tag: u32) -> State<K>
-    ensures { result ≡ state_of figures rows.now tag }
+    ensures { result ≡ state_of K.figures rows.now tag }
 {
     if tag == 1 {
         return State::Standing {

@@ -19,7 +19,7 @@ fn against_growth<K: Length>(
     run: K,
     drop: K,
 ) -> Option<Refusal>
-    ensures { result ≡ first_cause (growth_causes figures (extent_of book.now.rows.now) (state_of figures book.now.rows.now tag) (state_of figures book.now.rows.now parent) tag parent run drop) }
+    ensures { result ≡ first_cause (growth_causes K.figures (extent_of book.now.rows.now) (state_of K.figures book.now.rows.now tag) (state_of K.figures book.now.rows.now parent) tag parent run drop) }
 {
     let at = state_at(book.rows, tag);
     let up = state_at(book.rows, parent);
@@ -28,7 +28,7 @@ fn against_growth<K: Length>(
 
 /// The first cause against a strike.
 fn against_strike<K: Length>(book: &TableBook<'_, K>, tag: u32) -> Option<Refusal>
-    ensures { result ≡ first_cause (strike_causes (extent_of book.now.rows.now) (state_of figures book.now.rows.now tag) tag) }
+    ensures { result ≡ first_cause (strike_causes (extent_of book.now.rows.now) (state_of K.figures book.now.rows.now tag) tag) }
 {
     strike_cause(size_of(book.rows), tag, state_at(book.rows, tag))
 }
