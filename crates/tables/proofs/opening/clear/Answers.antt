@@ -6,8 +6,8 @@ use Rattle.tables.specs.Rows.{row_of}
 use Rattle.tables.proofs.Blanks.{blank_here, blank_other}
 use Rattle.tables.proofs.opening.clear.Goals as goal
 
-pub offset-bounds-rows-i : goal.offset-bounds-rows-i
-offset-bounds-rows-i g c = let h : c.loop-i.i < length c.args.rows.now = omega arith in search rules
+pub offset_bounds-rows-i : goal.offset_bounds-rows-i
+offset_bounds-rows-i g c = let h : c.loop-i.i < length c.args.rows.now = omega arith in search rules
 
 pub loop-i-preserved : goal.loop-i-preserved
 loop-i-preserved g c =

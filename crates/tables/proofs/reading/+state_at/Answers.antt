@@ -3,7 +3,7 @@ use Rattle.books.specs.States.{stands}
 use Rattle.tables.specs.Rows.{extent_of, fit, state_of}
 use Rattle.tables.proofs.Meaning.{state_root, state_low, state_beyond, said, read_blank, read_struck, read_stands, read_unfit, read_fallen}
 use Rattle.tables.proofs.reading.+state_at.Goals as goal
-use Rattle.tables.proofs.reading.+state_at.Goals.{then-tag-lt2-via-then-tag-lt2, then-tag-lt2-via-else-tag-lt2+then-tag-size-of}
+use Rattle.tables.proofs.reading.+state_at.Goals.{then-tag-lt2-via-then-tag-lt2, then-tag-lt2-via-else-tag-lt2+then-tag-size_of}
 
 pub returns-then-tag-eq1 : goal.returns-then-tag-eq1
 returns-then-tag-eq1 g t c =
@@ -17,20 +17,20 @@ returns-then-tag-eq1 g t c =
 pub returns-then-tag-lt2 : goal.returns-then-tag-lt2
 returns-then-tag-lt2 g t c = elim c.then-tag-lt2.branch [
   | then-tag-lt2-via-then-tag-lt2 w ↦ sym (state_low g.K.Length.figures c.args.rows.now c.args.tag w.if-tag-lt2.true c.if-tag-eq1.false)
-  | then-tag-lt2-via-else-tag-lt2+then-tag-size-of w ↦ sym (state_beyond g.K.Length.figures c.args.rows.now c.args.tag (omega (arith, w.size-of.ensures, w.if-tag-size-of.true)))
+  | then-tag-lt2-via-else-tag-lt2+then-tag-size_of w ↦ sym (state_beyond g.K.Length.figures c.args.rows.now c.args.tag (omega (arith, w.size_of.ensures, w.if-tag-size_of.true)))
 ]
 
 pub returns-in-Blank : goal.returns-in-Blank
 returns-in-Blank g t c =
     let k = g.K.Length.figures in
     let rows = c.args.rows.now in
-    read_blank k c.args.tag (state_of k rows) ∙ said k rows c.args.tag _ _ c.if-tag-lt2.false (omega (arith, c.size-of.ensures, c.if-tag-size-of.false)) c.in-Blank.is
+    read_blank k c.args.tag (state_of k rows) ∙ said k rows c.args.tag _ _ c.if-tag-lt2.false (omega (arith, c.size_of.ensures, c.if-tag-size_of.false)) c.in-Blank.is
 
 pub returns-in-Struck : goal.returns-in-Struck
 returns-in-Struck g t c =
     let k = g.K.Length.figures in
     let rows = c.args.rows.now in
-    read_struck k c.args.tag (state_of k rows) ∙ said k rows c.args.tag _ _ c.if-tag-lt2.false (omega (arith, c.size-of.ensures, c.if-tag-size-of.false)) c.in-Struck.is
+    read_struck k c.args.tag (state_of k rows) ∙ said k rows c.args.tag _ _ c.if-tag-lt2.false (omega (arith, c.size_of.ensures, c.if-tag-size_of.false)) c.in-Struck.is
 
 pub returns-then-not-fits : goal.returns-then-not-fits
 returns-then-not-fits g t c =
@@ -39,23 +39,23 @@ returns-then-not-fits g t c =
     let p = c.in-Standing.parent in
     let no : fit k c.args.tag p c.in-Standing.run' c.in-Standing.drop ≡ false = search rules in
     read_unfit k c.args.tag (state_of k rows) p c.in-Standing.run' c.in-Standing.drop no
-    ∙ said k rows c.args.tag _ _ c.if-tag-lt2.false (omega (arith, c.size-of.ensures, c.if-tag-size-of.false)) c.in-Standing.is
+    ∙ said k rows c.args.tag _ _ c.if-tag-lt2.false (omega (arith, c.size_of.ensures, c.if-tag-size_of.false)) c.in-Standing.is
 
-pub returns-then-not-is-standing : goal.returns-then-not-is-standing
-returns-then-not-is-standing g t c =
+pub returns-then-not-is_standing : goal.returns-then-not-is_standing
+returns-then-not-is_standing g t c =
     let k = g.K.Length.figures in
     let rows = c.args.rows.now in
     let p = c.in-Standing.parent in
     let no : stands (state_of k rows p) ≡ false = search rules in
     read_fallen k c.args.tag (state_of k rows) p c.in-Standing.run' c.in-Standing.drop no
-    ∙ said k rows c.args.tag _ _ c.if-tag-lt2.false (omega (arith, c.size-of.ensures, c.if-tag-size-of.false)) c.in-Standing.is
+    ∙ said k rows c.args.tag _ _ c.if-tag-lt2.false (omega (arith, c.size_of.ensures, c.if-tag-size_of.false)) c.in-Standing.is
 
-pub returns-else-not-is-standing : goal.returns-else-not-is-standing
-returns-else-not-is-standing g t c =
+pub returns-else-not-is_standing : goal.returns-else-not-is_standing
+returns-else-not-is_standing g t c =
     let k = g.K.Length.figures in
     let rows = c.args.rows.now in
     let p = c.in-Standing.parent in
     let fits : fit k c.args.tag p c.in-Standing.run' c.in-Standing.drop ≡ true = search rules in
     let up : stands (state_of k rows p) ≡ true = search rules in
     read_stands k c.args.tag (state_of k rows) p c.in-Standing.run' c.in-Standing.drop fits up
-    ∙ said k rows c.args.tag _ _ c.if-tag-lt2.false (omega (arith, c.size-of.ensures, c.if-tag-size-of.false)) c.in-Standing.is
+    ∙ said k rows c.args.tag _ _ c.if-tag-lt2.false (omega (arith, c.size_of.ensures, c.if-tag-size_of.false)) c.in-Standing.is
