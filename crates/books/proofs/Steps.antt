@@ -1,10 +1,9 @@
 -- How a list of edits goes on: an accepted growth, an accepted strike, a refusal.
-use Rattle.std.proofs.Common.{◌≡◌, ℕ, ◌<◌, ◌≤◌, Bool, true, false, ◌⊎◌, List, [], ◌∷◌, ◌++◌, sym, refl, ap, ◌∙◌, subst, inl, inr, arith}
+use Rattle.std.proofs.Common.{◌≡◌, ℕ, ◌≤◌, true, ◌⊎◌, List, [], ◌∷◌, ◌++◌, sym, refl, ap, ◌∙◌, subst, inl, inr, arith}
 use Rattle.lengths.specs.Figures.{Figures}
 use Rattle.std.proofs.lemmas.Bool.{cases_eq}
 use Rattle.books.specs.declared.edits.Edit.{Edit}
 use Rattle.books.specs.declared.edits.Edit.TheVariants.{Growth, Strike}
-use Rattle.books.specs.declared.edits.Answer.{Answer}
 use Rattle.books.specs.declared.edits.Answer.TheVariants as answers
 use Rattle.books.specs.declared.edits.Entry.{Entry}
 use Rattle.books.specs.declared.causes.Refused.{Refused}

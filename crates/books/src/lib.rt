@@ -1,5 +1,6 @@
 //! Books: what keeps the tree of a loom. This crate has the meaning of a book as an interface, and what holds of every book
 //! that shows that meaning; it has no book of its own.
+#![tactic(auto)]
 
 mod applying;
 mod causes;

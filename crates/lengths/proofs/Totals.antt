@@ -1,5 +1,5 @@
 -- Sums of many figures: what the laws give of `added` and `total`.
-use Rattle.std.proofs.Common.{◌≡◌, ℕ, suc, ◌+◌, ◌<◌, ◌≤◌, Bool, true, List, [], ◌∷◌, ◌++◌, length, get_or, take, sym, refl, ap, ◌∙◌, subst, arith, length-take}
+use Rattle.std.proofs.Common.{◌≡◌, ℕ, ◌+◌, ◌≤◌, true, List, [], ◌∷◌, ◌++◌, length, sym, refl, ◌∙◌, arith}
 use Rattle.std.specs.List.{AllByRecursion as All}
 use Rattle.lengths.specs.Figures.{Figures, Laws, Sum, none, one, both, added, total, most_entries}
 use Rattle.lengths.specs.Order.{sum_more, neutral_left}

@@ -1,8 +1,8 @@
 -- What the laws of a kind give on the order and on sums, for every proof above to cite.
-use Rattle.std.specs.Prelude.{◌≡◌, ℕ, ◌+◌, ◌≤◌, Bool, true, false, refl}
+use Rattle.std.specs.Prelude.{◌≡◌, ℕ, ◌≤◌, false, refl}
 use Rattle.std.proofs.Common.{sym, ap, ◌∙◌, arith}
 use Rattle.std.proofs.lemmas.Bool.{both_ways}
-use Rattle.lengths.specs.Figures.{Figures, Laws, Sum, none, one, both, Compared, below, equal, above, Less, AtMost, most_entries}
+use Rattle.lengths.specs.Figures.{Figures, Laws, Sum, none, one, both, below, equal, above, Less, AtMost, most_entries}
 
 -- a sum of at most m entries is one of at most n, for a larger n
 pub sum_more : {F : Type 0} {k : Figures F} {m n : ℕ} {x : F} → m ≤ n → Sum k m x → Sum k n x

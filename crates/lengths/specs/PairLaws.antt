@@ -1,11 +1,10 @@
 -- The laws of the first_then kind, from the laws of its parts alone.
-use Rattle.std.specs.Prelude.{◌≡◌, ℕ, ◌+◌, ◌≤◌, Bool, true, false, cond, ◌&&◌, refl}
-use Rattle.std.proofs.Common.{sym, ap, ◌∙◌, arith}
+use Rattle.std.specs.Prelude.{◌≡◌, ℕ, false}
+use Rattle.std.proofs.Common.{sym, ap, ◌∙◌}
 use Rattle.std.proofs.lemmas.Bool.{and_parts, and_from, both_ways}
-use Rattle.lengths.specs.Figures.{Figures, Laws, Sum, none, one, both, Compared, below, equal, above, Less, most_entries}
+use Rattle.lengths.specs.Figures.{Figures, Laws, Sum, none, one, both, Compared, below, equal, above, Less}
 use Rattle.lengths.specs.declared.pairs.FirstThen.{FirstThen}
 use Rattle.lengths.specs.Pairs.{pair, first_then}
-use Rattle.lengths.specs.Order.{irrefl, asym, same}
 
 pair_path : {A B : Type 0} {a c : A} {b d : B} → a ≡ c → b ≡ d → pair a b ≡ pair c d
 pair_path p q = λ i. record { first = p i; second = q i }

@@ -1,5 +1,5 @@
 -- First-then: two figures, of which the second is compared only where the first are equal.
-use Rattle.std.specs.Prelude.{ℕ, Bool, true, false, cond, ◌&&◌}
+use Rattle.std.specs.Prelude.{ℕ, true, false, cond, ◌&&◌}
 use Rattle.lengths.specs.declared.pairs.FirstThen.{FirstThen}
 use Rattle.lengths.specs.declared.joints.Couplings.{Couplings}
 use Rattle.lengths.specs.declared.metric.Millimetres.{Millimetres}

@@ -1,9 +1,8 @@
 -- The laws of a kind of whole numbers, once for every greatest entry of which enough fit 64 bits.
-use Rattle.std.specs.Prelude.{◌≡◌, ℕ, ◌+◌, ◌-◌, ◌*◌, ◌^◌, ◌<◌, ◌≤◌, min, Bool, true, false, nat_lt, refl}
-use Rattle.std.proofs.Common.{sym, ap, ◌∙◌, inl, inr, add-mul, zero-mul, one-mul, mul-le-mul_right, arith}
+use Rattle.std.specs.Prelude.{◌≡◌, ℕ, ◌+◌, ◌*◌, ◌<◌, ◌≤◌, min, false, nat_lt, refl}
+use Rattle.std.proofs.Common.{sym, ap, ◌∙◌, inl, inr, add-mul, one-mul, mul-le-mul_right, arith}
 use Rattle.std.proofs.lemmas.Bool.{cases_order, ltb-true, lt-ltb, le-ltb, leb-true, le-leb}
-use Rattle.std.proofs.lemmas.Bool.Decides.{nat_tests}
-use Rattle.lengths.specs.Figures.{Figures, Laws, Sum, none, one, both, Compared, below, equal, above, Exact, most_entries}
+use Rattle.lengths.specs.Figures.{Laws, Sum, none, one, both, Compared, below, equal, above, Exact, most_entries}
 use Rattle.lengths.specs.Whole.{whole, greatest}
 
 module _ {F : Type 0} (of : ℕ → F) (at : F → ℕ) (of_at : (x : F) → of (at x) ≡ x) (at_of : (n : ℕ) → at (of n) ≡ n) (most : ℕ) (small : most_entries * most ≤ greatest) where

@@ -2,6 +2,7 @@
 //!
 //! A kind is a type with an impl of [`Length`], and its values are figures. Code above this crate is generic over the
 //! kind and knows of it only what the trait says.
+#![tactic(auto)]
 
 mod interface;
 mod joints;

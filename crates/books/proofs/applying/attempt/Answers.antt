@@ -1,4 +1,4 @@
-use Rattle.std.proofs.Common.{◌≡◌, List, [], ◌∷◌, ◌++◌, sym, refl, ap, ◌∙◌, subst, rules}
+use Rattle.std.proofs.Common.{[], ◌∷◌, ◌++◌, sym, ap, ◌∙◌, subst}
 use Rattle.books.specs.declared.edits.Entry.{Entry}
 use Rattle.books.specs.Edits.{Led, told, verdict}
 use Rattle.books.proofs.Runs.{growth_done, strike_done, entry_as}

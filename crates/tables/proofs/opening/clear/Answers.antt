@@ -1,4 +1,4 @@
-use Rattle.std.proofs.Common.{◌≡◌, ◌<◌, ◌⊎◌, length, ap, ◌∙◌, inl, inr, arith, rules, below_more}
+use Rattle.std.proofs.Common.{◌<◌, length, ap, ◌∙◌, inl, inr, arith, rules, below_more}
 use Rattle.std.proofs.lemmas.List.{get_or_past, length-set, drop-set-lt}
 use Rattle.std.proofs.lemmas.Bool.{cases_lt}
 use Rattle.books.specs.declared.states.State.TheVariants.{Blank}

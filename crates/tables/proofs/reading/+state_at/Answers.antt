@@ -1,6 +1,6 @@
-use Rattle.std.proofs.Common.{◌≡◌, ℕ, ◌<◌, ◌≤◌, true, false, sym, ap, ◌∙◌, arith, rules}
+use Rattle.std.proofs.Common.{◌≡◌, true, false, sym, ap, ◌∙◌, arith, rules}
 use Rattle.books.specs.States.{stands}
-use Rattle.tables.specs.Rows.{extent_of, fit, state_of}
+use Rattle.tables.specs.Rows.{fit, state_of}
 use Rattle.tables.proofs.Meaning.{state_root, state_low, state_beyond, said, read_blank, read_struck, read_stands, read_unfit, read_fallen}
 use Rattle.tables.proofs.reading.+state_at.Goals as goal
 use Rattle.tables.proofs.reading.+state_at.Goals.{then-tag-lt2-via-then-tag-lt2, then-tag-lt2-via-else-tag-lt2+then-tag-size_of}

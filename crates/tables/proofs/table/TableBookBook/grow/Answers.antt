@@ -1,4 +1,4 @@
-use Rattle.std.proofs.Common.{◌≡◌, ◌-◌, ◌<◌, length, sym, refl, ap, arith, rules}
+use Rattle.std.proofs.Common.{◌-◌, ◌<◌, length, sym, refl, ap, arith, rules}
 use Rattle.std.proofs.lemmas.List.{drop-set-lt}
 use Rattle.books.specs.declared.states.State.TheVariants.{Standing}
 use Rattle.books.specs.Causes.{answered}

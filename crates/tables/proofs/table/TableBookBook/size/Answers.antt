@@ -1,4 +1,3 @@
-use Rattle.std.proofs.Common.{rules}
 use Rattle.tables.proofs.Changes.{lawful_rows}
 use Rattle.tables.proofs.table.TableBookBook.size.Goals as goal
 
