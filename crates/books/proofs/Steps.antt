@@ -1,12 +1,12 @@
 -- How a list of edits goes on: an accepted growth, an accepted strike, a refusal.
-use Rattle.std.proofs.Common.{◌≡◌, ℕ, ◌≤◌, true, ◌⊎◌, List, [], ◌∷◌, ◌++◌, sym, refl, ap, ◌∙◌, subst, inl, inr, arith}
+use Rattle.std.proofs.Common.{◌≡◌, ℕ, ◌<◌, ◌≤◌, Bool, true, false, ◌⊎◌, List, [], ◌∷◌, ◌++◌, sym, refl, ap, ◌∙◌, subst, inl, inr, arith}
 use Rattle.lengths.specs.Figures.{Figures}
 use Rattle.std.proofs.lemmas.Bool.{cases_eq}
 use Rattle.books.specs.declared.edits.Edit.{Edit}
 use Rattle.books.specs.declared.edits.Edit.TheVariants.{Growth, Strike}
+use Rattle.books.specs.declared.edits.Answer.{Answer}
 use Rattle.books.specs.declared.edits.Answer.TheVariants as answers
 use Rattle.books.specs.declared.edits.Entry.{Entry}
-use Rattle.books.specs.declared.causes.Refused.{Refused}
 use Rattle.books.specs.declared.states.State.{State}
 use Rattle.books.specs.declared.states.State.TheVariants.{Blank, Struck, Standing}
 use Rattle.books.specs.Edits as edits
@@ -136,13 +136,10 @@ module _ {K : Type 0} {k : Figures K} {h g : List (Entry K)} {s t : ℕ → Stat
     };
   }
 
--- an entry that was not accepted adds nothing
-pub refused_step : {K : Type 0} {k : Figures K} (h : List (Entry K)) (s t : ℕ → State K) (e : Edit K) (f : Refused) → Same s t → Led k h s → Led k (h ++ record { edit = e; answer = answers.Refused f } ∷ []) t
-refused_step {K} h s t e f same led =
-    alike (λ x m. among_more _ m) (λ x m. elim (among_cases h _ m) [ inl a ↦ a | inr q ↦ absurd (apart x q) ]) same led
-  where
-    apart : (x : Edit K) → accepted x ≡ record { edit = e; answer = answers.Refused f } → ⊥
-    apart x q = let a : answers.Accepted ≡ answers.Refused f = ap (λ (y : Entry K). y.answer) q in let z : ◌≡◌ {A = ℕ} 0 1 = cc in omega arith
+-- an edit that was not accepted adds nothing
+pub unaccepted_step : {K : Type 0} {k : Figures K} (h : List (Entry K)) (s t : ℕ → State K) (e : Edit K) (a : Answer) → (answers.Accepted ≡ a → ⊥) → Same s t → Led k h s → Led k (h ++ record { edit = e; answer = a } ∷ []) t
+unaccepted_step {K} h s t e a n same led =
+    alike (λ x m. among_more _ m) (λ x m. elim (among_cases h _ m) [ inl b ↦ b | inr q ↦ absurd (n (ap (λ (y : Entry K). y.answer) q)) ]) same led
 
 -- an accepted growth
 module _ {K : Type 0} {k : Figures K} {size : ℕ} {h : List (Entry K)} {s s' : ℕ → State K} {tag parent : ℕ} {run drop : K} (led : Led k h s) (may : MayGrow k size s tag parent run drop) (grown : Grown s s' tag (Standing parent run drop)) where

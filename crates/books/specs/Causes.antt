@@ -1,5 +1,5 @@
 -- The refusals of a book, with the numbers of docs/refusals.md, and the order in which each call checks.
-use Rattle.std.specs.Prelude.{ℕ, Bool, true, false, not, ◌||◌, List, [], ◌∷◌, Some, None, Ok, Err, Option, Result, ◌==◌, nat_le, nat_lt}
+use Rattle.std.specs.Prelude.{ℕ, Bool, true, false, not, ◌&&◌, ◌||◌, List, [], ◌∷◌, Some, None, Ok, Err, Option, Result, ◌==◌, nat_le, nat_lt}
 use Rattle.lengths.specs.Figures.{Figures}
 use Rattle.books.specs.declared.causes.Refusal.{Refusal}
 use Rattle.books.specs.declared.causes.Refusal.TheVariants.{OutOfRange, BadParent, BadRun, BadDrop, TagStands, TagStruck, ParentBlank, ParentStruck, TagBlank}
@@ -19,15 +19,16 @@ refusal_number ParentBlank = 7
 refusal_number ParentStruck = 8
 refusal_number TagBlank = 9
 
--- a table of causes, in the order in which they are checked: whether each holds, and the refusal that it is
+-- a table of causes (nothing to do with the table book), in the order in which they are checked: whether each holds, and the refusal that it is
 abbrev pub Table : Type 0
 Table = List (Bool × Refusal)
 
--- the first cause of a table that holds
+-- one cause, before the others: its refusal where it holds
 abbrev pub pick : Bool → Refusal → Option Refusal → Option Refusal
 pick true r o = Some r
 pick false r o = o
 
+-- the first cause of a table that holds
 abbrev pub first_cause : Table → Option Refusal
 first_cause [] = None
 first_cause (c ∷ cs) = pick c.0 c.1 (first_cause cs)

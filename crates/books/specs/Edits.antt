@@ -1,5 +1,5 @@
 -- Lists of edits with their answers, and the states that they explain.
-use Rattle.std.specs.Prelude.{◌≡◌, ℕ, ◌<◌, ◌≤◌, ◌⊎◌, List, ◌∷◌, ◌++◌, Ok, Err, Result, ◌≢◌}
+use Rattle.std.specs.Prelude.{◌≡◌, ℕ, ◌+◌, ◌<◌, ◌≤◌, Bool, true, false, ◌⊎◌, List, [], ◌∷◌, ◌++◌, map, Ok, Err, Result, ◌≢◌}
 use Rattle.lengths.specs.Figures.{Figures}
 use Rattle.books.specs.declared.causes.Refused.{Refused}
 use Rattle.books.specs.declared.edits.Edit.{Edit}
@@ -8,8 +8,18 @@ use Rattle.books.specs.declared.edits.Answer.{Answer}
 use Rattle.books.specs.declared.edits.Answer.TheVariants as answers
 use Rattle.books.specs.declared.edits.Entry.{Entry}
 use Rattle.books.specs.declared.states.State.{State}
-use Rattle.books.specs.declared.states.State.TheVariants.{Blank, Standing}
-use Rattle.books.specs.Causes.{answered, first_cause, growth_causes, strike_causes}
+use Rattle.books.specs.declared.states.State.TheVariants.{Blank, Struck, Standing}
+use Rattle.books.specs.Causes.{refusal_number, answered, first_cause, growth_causes, strike_causes}
+use Rattle.books.specs.States.{New, Grown, StruckOut, Same}
+
+-- the tag that an edit names, and the state that it says of it
+abbrev pub tag_of : {K : Type 0} → Edit K → ℕ
+tag_of (Growth tag parent run drop) = tag
+tag_of (Strike tag) = tag
+
+abbrev pub written : {K : Type 0} → Edit K → State K
+written (Growth tag parent run drop) = Standing parent run drop
+written (Strike tag) = Struck
 
 -- x is among the elements of the list
 pub data Among {A : Type 0} (x : A) : List A → Type 0 where
@@ -49,29 +59,84 @@ pub record Explains {K : Type 0} (k : Figures K) (h : List (Entry K)) (state : �
   pub blank : (t p : ℕ) (run drop : K) → state t ≡ Blank → Grew h t p run drop → ⊥
   pub never : (t : ℕ) → (t ≢ 1) → ((p : ℕ) (run drop : K) → Grew h t p run drop → ⊥) → state t ≡ Blank
 
--- what is so of a list of edits that a book answered: a growth has a tag above its parent, and the root is no such tag; it
--- stands on the root or on a tag that was grown; a tag was grown in one way; what a strike named was grown
+-- what is so of the accepted edits of a list that a book answered, whatever their order and however often one is written: a
+-- growth has a tag above its parent, and the root is no such tag; it stands on the root or on a tag that was grown; a tag was
+-- grown in one way; what a strike named was grown
 pub record Orderly {K : Type 0} (h : List (Entry K)) : Type 0 where
   pub above : (t p : ℕ) (run drop : K) → Grew h t p run drop → (1 ≤ p) × (p < t)
   pub grounded : (t p : ℕ) (run drop : K) → Grew h t p run drop → (p ≡ 1) ⊎ ((q : ℕ) × ((r : K) × ((d : K) × Grew h p q r d)))
   pub once : (t p q : ℕ) (run drop r d : K) → Grew h t p run drop → Grew h t q r d → (p ≡ q) × (run ≡ r) × (drop ≡ d)
   pub named : (s : ℕ) → Named h s → (q : ℕ) × ((r : K) × ((d : K) × Grew h s q r d))
 
--- `Led k h state`: the list led from a new book to these states
+-- `Led k h state`: the states are those that the accepted edits of the list call for. That a book gave these answers is said
+-- by `Course`, `Answered` and `CalledFor`
 pub record Led {K : Type 0} (k : Figures K) (h : List (Entry K)) (state : ℕ → State K) : Type 0 where
   pub orderly : Orderly h
   pub explains : Explains k h state
 
--- what an edit is answered where the tags have these states: the first cause, or accepted
+-- the answer that a result is
 abbrev pub told : Result (Unit {0}) Refused → Answer
 told (Ok u) = answers.Accepted
 told (Err r) = answers.Refused r
 
+-- the number of an answer: 0 for accepted, the number of the refusal, and 255, which is no number of a refusal, for none yet
+abbrev pub answer_number : Answer → ℕ
+answer_number answers.Waiting = 255
+answer_number answers.Accepted = 0
+answer_number (answers.Refused r) = refusal_number r.cause
+
+-- what an edit is answered where the tags have these states: the first cause, or accepted
 abbrev pub verdict : {K : Type 0} → Figures K → ℕ → (ℕ → State K) → Edit K → Answer
 verdict k size state (Growth tag parent run drop) = told (answered tag tt (first_cause (growth_causes k size (state tag) (state parent) tag parent run drop)))
 verdict k size state (Strike tag) = told (answered tag tt (first_cause (strike_causes size (state tag) tag)))
+
+-- what an edit did to the states, by its answer: an accepted growth made its tag stand as given, an accepted strike struck its
+-- tag out, and every other edit changed nothing
+abbrev pub Done : {K : Type 0} → Edit K → Answer → (ℕ → State K) → (ℕ → State K) → Type 0
+Done (Growth tag parent run drop) answers.Accepted s t = Grown s t tag (Standing parent run drop)
+Done (Strike tag) answers.Accepted s t = StruckOut s t tag
+Done e answers.Waiting s t = Same s t
+Done e (answers.Refused f) s t = Same s t
+
+-- `Course k size ns s t`: the edits of the list, done one after another from the states s on, are answered so and leave the
+-- states t. Each answer is what the states before it call for, and each edit did what its answer says
+pub data Course {K : Type 0} (k : Figures K) (size : ℕ) : List (Entry K) → (ℕ → State K) → (ℕ → State K) → Type 0 where
+  nothing : {s t : ℕ → State K} → Same s t → Course k size [] s t
+  then : {n : Entry K} {ns : List (Entry K)} {s t u : ℕ → State K}
+      → n.answer ≡ verdict k size s n.edit → Done n.edit n.answer s t → Course k size ns t u → Course k size (n ∷ ns) s u
+
+-- how many edits of the list were accepted
+abbrev pub taken : Answer → ℕ
+taken answers.Waiting = 0
+taken answers.Accepted = 1
+taken (answers.Refused r) = 0
+
+abbrev pub accepted_in : {K : Type 0} → List (Entry K) → ℕ
+accepted_in [] = 0
+accepted_in (n ∷ ns) = taken n.answer + accepted_in ns
 
 -- every answer is the one that the states before it call for
 abbrev pub Answered : {K : Type 0} → Figures K → ℕ → List (Entry K) → List (Entry K) → Type 0
 Answered {K} k size h es = (before : List (Entry K)) (e : Entry K) (after : List (Entry K)) → es ≡ before ++ e ∷ after
     → (state : ℕ → State K) → Explains k (h ++ before) state → e.answer ≡ verdict k size state e.edit
+
+-- the same, and there are such states: after the list h, the list up to an edit explains states, and the edit is answered as
+-- these states call for
+abbrev pub CalledFor : {K : Type 0} → Figures K → ℕ → List (Entry K) → List (Entry K) → Type 0
+CalledFor {K} k size h ns = (before : List (Entry K)) (n : Entry K) (after : List (Entry K)) → ns ≡ before ++ n ∷ after
+    → (state : ℕ → State K) × (Explains k (h ++ before) state × (n.answer ≡ verdict k size state n.edit))
+
+-- `Tried k size edits ns`: these edits, done one after another on a new book of this size, are answered so
+pub record Tried {K : Type 0} (k : Figures K) (size : ℕ) (edits : List (Edit K)) (ns : List (Entry K)) : Type 0 where
+  pub fresh : ℕ → State K
+  pub left : ℕ → State K
+  pub new : New k fresh
+  pub course : Course k size ns fresh left
+  pub same : map (λ n. n.edit) ns ≡ edits
+
+-- `Wrote w a ns b`, where w says what an accepted edit writes: from the book a to the book b each accepted edit of the list wrote
+-- so, one after another, and the others left the book as it was
+pub data Wrote {B K : Type 0} (w : B → Edit K → B → Type 0) : B → List (Entry K) → B → Type 0 where
+  end : {a b : B} → b ≡ a → Wrote w a [] b
+  wrote : {n : Entry K} {ns : List (Entry K)} {a b c : B} → n.answer ≡ answers.Accepted → w a n.edit b → Wrote w b ns c → Wrote w a (n ∷ ns) c
+  idle : {n : Entry K} {ns : List (Entry K)} {a c : B} → (n.answer ≢ answers.Accepted) → Wrote w a ns c → Wrote w a (n ∷ ns) c

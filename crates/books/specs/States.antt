@@ -1,9 +1,10 @@
 -- What a book means: a size, and for each tag a state.
-use Rattle.std.specs.Prelude.{◌≡◌, ℕ, ◌<◌, ◌≤◌, Bool, true, false, ◌≢◌}
+use Rattle.std.specs.Prelude.{◌≡◌, ℕ, zero, suc, ◌+◌, ◌<◌, ◌≤◌, Bool, true, false, ◌≢◌}
 use Rattle.lengths.specs.Figures.{Figures, Less}
 use Rattle.books.specs.declared.states.State.{State}
 use Rattle.books.specs.declared.states.State.TheVariants.{Blank, Struck, Standing}
 
+-- whether a state is blank; whether it is struck; whether the tag stands
 abbrev pub is_blank : {K : Type 0} → State K → Bool
 is_blank Blank = true
 is_blank Struck = false
@@ -62,3 +63,14 @@ pub record StruckOut {K : Type 0} (before after : ℕ → State K) (tag : ℕ) :
 -- nothing changed
 abbrev pub Same : {K : Type 0} → (ℕ → State K) → (ℕ → State K) → Type 0
 Same before after = (t : ℕ) → after t ≡ before t
+
+-- how many edits may still be accepted of a tag: of a blank one a growth and a strike, of a standing one a strike
+abbrev pub left : {K : Type 0} → State K → ℕ
+left Blank = 2
+left Struck = 0
+left (Standing p r d) = 1
+
+-- how many edits may still be accepted of the n tags from 2 on
+unfoldable pub lefts : {K : Type 0} → (ℕ → State K) → ℕ → ℕ
+lefts state zero = 0
+lefts state (suc n) = left (state (n + 2)) + lefts state n

@@ -1,5 +1,7 @@
 // The interface of a book.
-ghost use Rattle.std.specs.Prelude.{◌≡◌, ℕ, MatchResult};
+ghost use Rattle.std.specs.Prelude.{◌≡◌, ℕ, MatchResult, OnErr, OnOk};
+ghost use Rattle.books.specs.declared.edits.Edit.{Edit as AnEdit};
+ghost use Rattle.books.specs.declared.edits.Edit.TheVariants.{Growth, Strike};
 ghost use Rattle.books.specs.declared.states.State.{State as AState};
 ghost use Rattle.books.specs.declared.states.State.TheVariants.{Standing};
 ghost use Rattle.books.specs.Causes.{answered, first_cause, growth_causes, strike_causes, look_causes};
@@ -20,16 +22,24 @@ pub trait Book {
     // The state of each tag.
     ghost state: { Self → ℕ → AState Self.Kind };
 
-    /// The size. Every book is lawful, and says so here.
+    // What is left alone from an earlier book to a later one, as the book itself says it: of the memory lent to it at least what
+    // it does not use.
+    ghost leaves: { Self → Self → Type 0 };
+
+    // What an accepted edit writes, from the book before it to the book after it.
+    ghost writes: { Self → AnEdit Self.Kind → Self → Type 0 };
+
+    /// The size. Every book is lawful, and where nothing was done, all that it leaves alone was left alone; it says so here.
     fn size(&self) -> u32
         ensures answer { result ≡ extent self.now }
-        ensures lawful { Lawful Self.Kind.Length.figures (extent self.now) (state self.now) };
+        ensures lawful { Lawful Self.Kind.Length.figures (extent self.now) (state self.now) }
+        ensures alone { leaves self.now self.now };
 
     /// The state of a tag.
     fn look(&self, tag: u32) -> Result<State<Self::Kind>, Refused>
         ensures { result ≡ answered tag (state self.now tag) (first_cause (look_causes (extent self.now) tag)) };
 
-    /// Grows a tag: it stands with this parent, run and drop.
+    /// Grows a tag: it stands with this parent, run and drop. Refused, it leaves the book itself as it was.
     fn grow(
         &mut self,
         tag: u32,
@@ -39,11 +49,17 @@ pub trait Book {
     ) -> Result<(), Refused>
         ensures answer { result ≡ answered tag tt (first_cause (growth_causes Self.Kind.Length.figures (extent self.old) (state self.old tag) (state self.old parent) tag parent run drop)) }
         ensures size { extent self.new ≡ extent self.old }
-        ensures states { MatchResult result (λ _. Grown (state self.old) (state self.new) tag (Standing parent run drop)) (λ _. Same (state self.old) (state self.new)) };
+        ensures states { MatchResult result (λ _. Grown (state self.old) (state self.new) tag (Standing parent run drop)) (λ _. Same (state self.old) (state self.new)) }
+        ensures writes { OnOk result (writes self.old (Growth tag parent run drop) self.new) }
+        ensures refused { OnErr result (self.new ≡ self.old) }
+        ensures leaves { (a : Self) → leaves a self.old → leaves a self.new };
 
-    /// Strikes a tag, with every tag that hangs from it.
+    /// Strikes a tag, with every tag that hangs from it. Refused, it leaves the book itself as it was.
     fn strike(&mut self, tag: u32) -> Result<(), Refused>
         ensures answer { result ≡ answered tag tt (first_cause (strike_causes (extent self.old) (state self.old tag) tag)) }
         ensures size { extent self.new ≡ extent self.old }
-        ensures states { MatchResult result (λ _. StruckOut (state self.old) (state self.new) tag) (λ _. Same (state self.old) (state self.new)) };
+        ensures states { MatchResult result (λ _. StruckOut (state self.old) (state self.new) tag) (λ _. Same (state self.old) (state self.new)) }
+        ensures writes { OnOk result (writes self.old (Strike tag) self.new) }
+        ensures refused { OnErr result (self.new ≡ self.old) }
+        ensures leaves { (a : Self) → leaves a self.old → leaves a self.new };
 }

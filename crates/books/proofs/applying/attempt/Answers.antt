@@ -1,7 +1,7 @@
-use Rattle.std.proofs.Common.{[], ◌∷◌, ◌++◌, sym, ap, ◌∙◌, subst}
-use Rattle.books.specs.declared.edits.Entry.{Entry}
-use Rattle.books.specs.Edits.{Led, told, verdict}
-use Rattle.books.proofs.Runs.{growth_done, strike_done, entry_as}
+use Rattle.std.proofs.Common.{◌≡◌, sym, refl, ap, ◌∙◌, subst, rules}
+use Rattle.books.specs.declared.edits.Edit.{Edit}
+use Rattle.books.specs.Edits.{Done, told, verdict}
+use Rattle.books.proofs.Courses.{growth_done, strike_done, when_accepted, when_refused, done_as, step_led}
 use Rattle.books.proofs.applying.attempt.Goals as goal
 
 pub returns-in-Growth : goal.returns-in-Growth
@@ -11,12 +11,18 @@ returns-in-Growth g c =
     let s = g.B.Book.state c.args.book.now in
     let t = g.B.Book.state c.grow.new.self in
     let e = c.in-Growth.is in
-    let done = c.grow.ensures in
+    let r = c.kept.result in
+    let did = c.grow.ensures in
+    let answer : r ≡ verdict k n s c.args.edit = c.kept.ensures ∙ ap told did.answer ∙ ap (verdict k n s) (sym e) in
+    let done : Done c.args.edit r s t = done_as s t e c.kept.ensures (growth_done s t c.in-Growth.tag c.in-Growth.parent c.in-Growth.run' c.in-Growth.drop c.grow.result did.states) in
     record {
-      answer = c.kept.ensures ∙ ap told done.answer ∙ ap (verdict k n s) (sym e);
-      size = done.size;
-      led = λ h led. subst (λ (x : Entry g.row.B-Kind.Denot). Led k (h ++ x ∷ []) t) (entry_as (sym e) (sym c.kept.ensures))
-          (growth_done k n h s t c.in-Growth.tag c.in-Growth.parent c.in-Growth.run' c.in-Growth.drop c.grow.result done.answer done.states led);
+      answer = answer;
+      size = did.size;
+      done = done;
+      writes = λ y. subst (λ (x : Edit g.row.B-Kind.Denot). g.B.Book.writes c.args.book.now x c.grow.new.self) (sym e) (when_accepted c.grow.result c.kept.ensures did.writes y);
+      refused = when_refused c.grow.result c.kept.ensures did.refused;
+      leaves = did.leaves;
+      led = λ h led. step_led n c.args.edit r answer done led;
     }
 
 pub returns-in-Strike : goal.returns-in-Strike
@@ -26,10 +32,16 @@ returns-in-Strike g c =
     let s = g.B.Book.state c.args.book.now in
     let t = g.B.Book.state c.strike.new.self in
     let e = c.in-Strike.is in
-    let done = c.strike.ensures in
+    let r = c.kept-in-Strike.result in
+    let did = c.strike.ensures in
+    let answer : r ≡ verdict k n s c.args.edit = c.kept-in-Strike.ensures ∙ ap told did.answer ∙ ap (verdict k n s) (sym e) in
+    let done : Done c.args.edit r s t = done_as s t e c.kept-in-Strike.ensures (strike_done s t c.in-Strike.tag c.strike.result did.states) in
     record {
-      answer = c.kept-in-Strike.ensures ∙ ap told done.answer ∙ ap (verdict k n s) (sym e);
-      size = done.size;
-      led = λ h led. subst (λ (x : Entry g.row.B-Kind.Denot). Led k (h ++ x ∷ []) t) (entry_as (sym e) (sym c.kept-in-Strike.ensures))
-          (strike_done k n h s t c.in-Strike.tag c.strike.result done.answer done.states led);
+      answer = answer;
+      size = did.size;
+      done = done;
+      writes = λ y. subst (λ (x : Edit g.row.B-Kind.Denot). g.B.Book.writes c.args.book.now x c.strike.new.self) (sym e) (when_accepted c.strike.result c.kept-in-Strike.ensures did.writes y);
+      refused = when_refused c.strike.result c.kept-in-Strike.ensures did.refused;
+      leaves = did.leaves;
+      led = λ h led. step_led n c.args.edit r answer done led;
     }

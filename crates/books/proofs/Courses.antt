@@ -1,0 +1,192 @@
+-- Edits that are done one after another: what one edit does, and what a list of them comes to.
+use Rattle.std.proofs.Common.{◌≡◌, ℕ, ◌<◌, Bool, true, false, ◌⊎◌, List, [], ◌∷◌, ◌++◌, map, length, get_or, set, IfOk, IfErr, Some, None, Ok, Err, Option, Result, sym, refl, ap, ◌∙◌, subst, inl, inr, arith, MatchResult}
+use mathlib.Core.Path.{fun_ext}
+use Rattle.std.proofs.lemmas.List.{append-nil, append_assoc, map-set, get_or-map, set-get_or}
+use Rattle.std.proofs.lemmas.Bool.{cases_Bool, cases_eq, both_ways}
+use Rattle.lengths.specs.Figures.{Figures}
+use Rattle.books.specs.declared.causes.Refusal.{Refusal}
+use Rattle.books.specs.declared.causes.Refused.{Refused}
+use Rattle.books.specs.declared.edits.Answer.{Answer}
+use Rattle.books.specs.declared.edits.Answer.TheVariants as answers
+use Rattle.books.specs.declared.edits.Edit.{Edit}
+use Rattle.books.specs.declared.edits.Edit.TheVariants.{Growth, Strike}
+use Rattle.books.specs.declared.edits.Entry.{Entry}
+use Rattle.books.specs.declared.states.State.{State}
+use Rattle.books.specs.declared.states.State.TheVariants.{Blank, Struck, Standing}
+use Rattle.books.specs.Causes.{answered, first_cause, growth_causes, strike_causes}
+use Rattle.books.specs.Edits.{Among, Explains, Led, CalledFor, Done, Course, Tried, nothing, then, told, verdict, Wrote, end, wrote, idle}
+use Rattle.books.specs.States.{is_struck, New, Hangs, Grown, StruckOut, Same}
+use Rattle.books.proofs.Members.{among_some}
+use Rattle.books.proofs.Steps.{not_blank, unaccepted_step, growth_step, strike_step}
+use Rattle.books.proofs.Tables.{may_grow, may_strike}
+
+pub no_cause : (tag : ℕ) (o : Option Refusal) → answers.Accepted ≡ told (answered tag tt o) → o ≡ None
+no_cause tag None e = refl
+no_cause tag (Some r) e = let z : ◌≡◌ {A = ℕ} 0 1 = cc in absurd (omega arith)
+
+-- what a growth and a strike of a book did, from their own promises
+pub growth_done : {K : Type 0} (s t : ℕ → State K) (tag parent : ℕ) (run drop : K) (res : Result (Unit {0}) Refused) → MatchResult res (λ _. Grown s t tag (Standing parent run drop)) (λ _. Same s t) → Done (Growth tag parent run drop) (told res) s t
+growth_done s t tag parent run drop (Ok u) c = c
+growth_done s t tag parent run drop (Err f) c = c
+
+pub strike_done : {K : Type 0} (s t : ℕ → State K) (tag : ℕ) (res : Result (Unit {0}) Refused) → MatchResult res (λ _. StruckOut s t tag) (λ _. Same s t) → Done (Strike tag) (told res) s t
+strike_done s t tag (Ok u) c = c
+strike_done s t tag (Err f) c = c
+
+-- what a refusal leaves
+pub when_refused : {X : Type 0} {a : Answer} (res : Result (Unit {0}) Refused) → a ≡ told res → IfErr res (λ _. X) → (a ≡ answers.Accepted → ⊥) → X
+when_refused (Ok u) e c n = absurd (n e)
+when_refused (Err f) e c n = c
+
+-- what an acceptance does
+pub when_accepted : {X : Type 0} {a : Answer} (res : Result (Unit {0}) Refused) → a ≡ told res → IfOk res (λ _. X) → a ≡ answers.Accepted → X
+when_accepted (Ok u) e c y = c
+when_accepted (Err f) e c y = let z : ◌≡◌ {A = ℕ} 0 1 = cc in absurd (omega arith)
+
+-- an edit that was answered and done so, under another name for each
+pub done_as : {K : Type 0} (s t : ℕ → State K) {e f : Edit K} {a b : Answer} → e ≡ f → a ≡ b → Done f b s t → Done e a s t
+done_as {K} s t {e} {f} {a} {b} p q d = subst (λ (x : Edit K). Done x a s t) (sym p) (subst (λ (y : Answer). Done f y s t) (sym q) d)
+
+-- the list that led to the states goes on with an edit and its answer
+pub step_led : {K : Type 0} {k : Figures K} {h : List (Entry K)} {s t : ℕ → State K} (size : ℕ) (e : Edit K) (a : Answer)
+    → a ≡ verdict k size s e → Done e a s t → Led k h s → Led k (h ++ record { edit = e; answer = a } ∷ []) t
+step_led {K} {k} {h} {s} {t} size (Growth tag parent run drop) answers.Accepted v d led = growth_step led (may_grow k size s tag parent run drop (no_cause tag _ v)) d
+step_led {K} {k} {h} {s} {t} size (Strike tag) answers.Accepted v d led = strike_step led (may_strike size s tag (no_cause tag _ v)) d
+step_led {K} {k} {h} {s} {t} size (Growth tag parent run drop) answers.Waiting v d led = unaccepted_step h s t _ answers.Waiting (λ q. let z : ◌≡◌ {A = ℕ} 0 1 = cc in omega arith) d led
+step_led {K} {k} {h} {s} {t} size (Strike tag) answers.Waiting v d led = unaccepted_step h s t _ answers.Waiting (λ q. let z : ◌≡◌ {A = ℕ} 0 1 = cc in omega arith) d led
+step_led {K} {k} {h} {s} {t} size (Growth tag parent run drop) (answers.Refused f) v d led = unaccepted_step h s t _ (answers.Refused f) (λ q. let z : ◌≡◌ {A = ℕ} 0 1 = cc in omega arith) d led
+step_led {K} {k} {h} {s} {t} size (Strike tag) (answers.Refused f) v d led = unaccepted_step h s t _ (answers.Refused f) (λ q. let z : ◌≡◌ {A = ℕ} 0 1 = cc in omega arith) d led
+
+-- a course goes on at its end
+pub course_more : {K : Type 0} {k : Figures K} {size : ℕ} {ns : List (Entry K)} {s t u : ℕ → State K} (n : Entry K)
+    → Course k size ns s t → n.answer ≡ verdict k size t n.edit → Done n.edit n.answer t u → Course k size (ns ++ n ∷ []) s u
+course_more {K} {k} {size} {ns} {s} {t} {u} n (nothing same) v d =
+    subst (λ (x : ℕ → State K). Course k size (n ∷ []) x u) (fun_ext same) (then v d (nothing (λ x. refl)))
+course_more n (then w e c) v d = then w e (course_more n c v d)
+
+-- the list that led to the states before a course leads on with it
+pub course_led : {K : Type 0} {k : Figures K} {size : ℕ} {ns : List (Entry K)} {s t : ℕ → State K} (h : List (Entry K)) → Course k size ns s t → Led k h s → Led k (h ++ ns) t
+course_led {K} {k} {size} {ns} {s} {t} h (nothing same) led =
+    subst (λ (x : ℕ → State K). Led k (h ++ []) x) (sym (fun_ext same)) (subst (λ (x : List (Entry K)). Led k x s) (sym (append-nil h)) led)
+course_led {K} {k} {size} {ns} {s} {t} h (then {n = n} {ns = rest} v d c) led =
+    subst (λ (x : List (Entry K)). Led k x t) (append_assoc h (n ∷ []) rest) (course_led (h ++ n ∷ []) c (step_led size n.edit n.answer v d led))
+
+-- every answer of a course is what the edits before it call for
+pub course_answered : {K : Type 0} {k : Figures K} {size : ℕ} {ns : List (Entry K)} {s t : ℕ → State K} (h : List (Entry K)) → Course k size ns s t → Led k h s → CalledFor k size h ns
+course_answered h (nothing same) led [] n after p = let z : ◌≡◌ {A = ℕ} 0 1 = cc in absurd (omega arith)
+course_answered h (nothing same) led (b ∷ before) n after p = let z : ◌≡◌ {A = ℕ} 0 1 = cc in absurd (omega arith)
+course_answered {K} {k} {size} {ns} {s} {t} h (then {n = m} {ns = rest} v d c) led [] n after p =
+    let q : m ≡ n = cc in
+    (s, (subst (λ (x : List (Entry K)). Explains k x s) (sym (append-nil h)) led.explains, subst (λ (x : Entry K). x.answer ≡ verdict k size s x.edit) q v))
+course_answered {K} {k} {size} {ns} {s} {t} h (then {n = m} {ns = rest} v d c) led (b ∷ before) n after p =
+    let q : m ≡ b = cc in
+    let r : rest ≡ before ++ n ∷ after = cc in
+    let a = course_answered (h ++ m ∷ []) c (step_led size m.edit m.answer v d led) before n after r in
+    let e : (h ++ m ∷ []) ++ before ≡ h ++ b ∷ before = append_assoc h (m ∷ []) before ∙ ap (λ (x : Entry K). h ++ x ∷ before) q in
+    (a.0, (subst (λ (x : List (Entry K)). Explains k x a.0) e a.1.0, a.1.1))
+
+-- what an edit leaves is told by the states before it and its answer
+pub struck_as : {K : Type 0} (x : State K) → is_struck x ≡ true → x ≡ Struck
+struck_as Blank e = let z : ◌≡◌ {A = ℕ} 0 1 = cc in absurd (omega arith)
+struck_as Struck e = refl
+struck_as (Standing p r d) e = let z : ◌≡◌ {A = ℕ} 0 1 = cc in absurd (omega arith)
+
+pub out_apart : {K : Type 0} {s t : ℕ → State K} {tag : ℕ} → StruckOut s t tag → (x : ℕ) → is_struck (t x) ≡ false → (x ≡ tag → ⊥) × (Hangs s tag x → ⊥)
+out_apart {K} {s} {t} out x n =
+    (λ e. both_ways (is_struck (t x)) n (ap is_struck (ap t e ∙ out.named)), λ c. both_ways (is_struck (t x)) n (ap is_struck (out.with_it x c)))
+
+out_once : {K : Type 0} {s t u : ℕ → State K} {tag : ℕ} → StruckOut s t tag → StruckOut s u tag → Same t u
+out_once {K} {s} {t} {u} {tag} a b x = elim (cases_Bool (is_struck (t x))) [
+  | inl y ↦ elim (cases_Bool (is_struck (u x))) [ inl z ↦ struck_as (u x) z ∙ sym (struck_as (t x) y) | inr n ↦ both (out_apart b x n) ]
+  | inr n ↦ both (out_apart a x n)
+]
+  where
+    both : (x ≡ tag → ⊥) × (Hangs s tag x → ⊥) → u x ≡ t x
+    both m = b.kept x m.0 m.1 ∙ sym (a.kept x m.0 m.1)
+
+grown_once : {K : Type 0} {s t u : ℕ → State K} {tag : ℕ} {new : State K} → Grown s t tag new → Grown s u tag new → Same t u
+grown_once {K} {s} {t} {u} {tag} a b x = elim (cases_eq x tag) [ inl e ↦ ap u e ∙ b.stood ∙ sym (ap t e ∙ a.stood) | inr n ↦ b.kept x n ∙ sym (a.kept x n) ]
+
+same_once : {K : Type 0} {s t u : ℕ → State K} → Same s t → Same s u → Same t u
+same_once a b x = b x ∙ sym (a x)
+
+done_once : {K : Type 0} (s t u : ℕ → State K) (e : Edit K) (a : Answer) → Done e a s t → Done e a s u → Same t u
+done_once s t u (Growth tag parent run drop) answers.Accepted a b = grown_once a b
+done_once s t u (Strike tag) answers.Accepted a b = out_once a b
+done_once s t u (Growth tag parent run drop) answers.Waiting a b = same_once a b
+done_once s t u (Strike tag) answers.Waiting a b = same_once a b
+done_once s t u (Growth tag parent run drop) (answers.Refused f) a b = same_once a b
+done_once s t u (Strike tag) (answers.Refused f) a b = same_once a b
+
+-- an edit with its answer, under other names
+entry_as : {K : Type 0} {e f : Edit K} {a b : Answer} → e ≡ f → a ≡ b → ◌≡◌ {A = Entry K} (record { edit = e; answer = a }) (record { edit = f; answer = b })
+entry_as p q = λ i. record { edit = p i; answer = q i }
+
+-- the same edits from the same states are answered alike and leave the same states
+pub course_once : {K : Type 0} {k : Figures K} {size : ℕ} {ns ms : List (Entry K)} {s t s' t' : ℕ → State K} → Course k size ns s t → Course k size ms s' t'
+    → map (λ (n : Entry K). n.edit) ms ≡ map (λ (n : Entry K). n.edit) ns → Same s s' → (ms ≡ ns) × Same t t'
+course_once (nothing a) (nothing b) p same = (refl, λ x. b x ∙ same x ∙ sym (a x))
+course_once (nothing a) (then w e d) p same = let z : ◌≡◌ {A = ℕ} 0 1 = cc in absurd (omega arith)
+course_once (then w e d) (nothing b) p same = let z : ◌≡◌ {A = ℕ} 0 1 = cc in absurd (omega arith)
+course_once {K} {k} {size} {ns} {ms} {s} {t} {s'} {t'} (then {n = n} {ns = xs} {t = u} v d c) (then {n = m} {ns = ys} {t = u'} w e b) p same =
+    let q : m.edit ≡ n.edit = cc in
+    let r : map (λ (x : Entry K). x.edit) ys ≡ map (λ (x : Entry K). x.edit) xs = cc in
+    let alike : s' ≡ s = fun_ext same in
+    let told' : m.answer ≡ n.answer = w ∙ ap (λ (x : ℕ → State K). verdict k size x m.edit) alike ∙ ap (verdict k size s) q ∙ sym v in
+    let e' : Done n.edit n.answer s u' = done_as s u' (sym q) (sym told') (subst (λ (x : ℕ → State K). Done m.edit m.answer x u') alike e) in
+    let rest = course_once c b r (done_once s u u' n.edit n.answer d e') in
+    let one : m ≡ n = entry_as q told' in
+    (ap (λ (x : Entry K). x ∷ ys) one ∙ ap (λ (zs : List (Entry K)). n ∷ zs) rest.0, rest.1)
+
+-- one book is new
+new_same : {K : Type 0} {k : Figures K} {s t : ℕ → State K} → New k s → New k t → Same s t
+new_same {K} {k} {s} {t} a b x = elim (cases_eq x 1) [ inl e ↦ ap t e ∙ b.root ∙ sym (ap s e ∙ a.root) | inr n ↦ b.blank x n ∙ sym (a.blank x n) ]
+
+-- the answers of a new book are told by the edits
+pub tried_once : {K : Type 0} {k : Figures K} {size : ℕ} {edits : List (Edit K)} {ns ms : List (Entry K)} → Tried k size edits ns → Tried k size edits ms → ms ≡ ns
+tried_once a b = (course_once a.course b.course (b.same ∙ sym a.same) (new_same a.new b.new)).0
+
+-- an answer that is noted leaves the edits
+pub edits_kept : {K : Type 0} (ns : List (Entry K)) (i : ℕ) (d : Entry K) (a : Answer) → i < length ns
+    → map (λ (n : Entry K). n.edit) (set ns i (record { edit = (get_or ns i d).edit; answer = a })) ≡ map (λ (n : Entry K). n.edit) ns
+edits_kept {K} ns i d a h =
+    map-set (λ (n : Entry K). n.edit) ns i _
+    ∙ ap (set (map (λ (n : Entry K). n.edit) ns) i) (sym (get_or-map (λ (n : Entry K). n.edit) ns i d d.edit h))
+    ∙ set-get_or (map (λ (n : Entry K). n.edit) ns) i d.edit
+
+-- the empty list leads to a new book
+pub led_new : {K : Type 0} {k : Figures K} (s : ℕ → State K) → New k s → Led k [] s
+led_new {K} {k} s new = record {
+  orderly = record {
+    above = λ t p r d m. absurd (nowhere m);
+    grounded = λ t p r d m. absurd (nowhere m);
+    once = λ t p q r d a b m n. absurd (nowhere m);
+    named = λ q m. absurd (nowhere m);
+  };
+  explains = record {
+    root = new.root;
+    standing = λ t p r d n e. absurd (not_blank (sym e ∙ new.blank t n));
+    stood = λ t p r d sb. absurd (nowhere sb.grew);
+    blank = λ t p r d e m. absurd (nowhere m);
+    never = λ t n f. new.blank t n;
+  };
+}
+  where
+    nowhere : {x : Entry K} → Among x [] → ⊥
+    nowhere m = let h = among_some m in omega arith
+
+-- an answer is an acceptance, or not
+told_apart : (a : Answer) → (a ≡ answers.Accepted) ⊎ (a ≡ answers.Accepted → ⊥)
+told_apart answers.Waiting = inr (λ q. let z : ◌≡◌ {A = ℕ} 0 1 = cc in omega arith)
+told_apart answers.Accepted = inl refl
+told_apart (answers.Refused f) = inr (λ q. let z : ◌≡◌ {A = ℕ} 0 1 = cc in omega arith)
+
+-- an edit more that was written, or was not
+pub wrote_more : {B K : Type 0} {w : B → Edit K → B → Type 0} {ns : List (Entry K)} {a b c : B} (n : Entry K)
+    → Wrote w a ns b → (n.answer ≡ answers.Accepted → w b n.edit c) → ((n.answer ≡ answers.Accepted → ⊥) → c ≡ b) → Wrote w a (ns ++ n ∷ []) c
+wrote_more {B} {K} {w} {ns} {a} {b} {c} n (end e) f g = elim (told_apart n.answer) [
+  | inl y ↦ wrote y (subst (λ (x : B). w x n.edit c) e (f y)) (end refl)
+  | inr y ↦ idle y (end (g y ∙ e))
+]
+wrote_more n (wrote y h r) f g = wrote y h (wrote_more n r f g)
+wrote_more n (idle y r) f g = idle y (wrote_more n r f g)
