@@ -1,5 +1,5 @@
 -- Edits that are done one after another: what one edit does, and what a list of them comes to.
-use Rattle.std.proofs.Common.{◌≡◌, ℕ, ◌<◌, Bool, true, false, ◌⊎◌, List, [], ◌∷◌, ◌++◌, map, length, get_or, set, IfOk, IfErr, Some, None, Ok, Err, Option, Result, sym, refl, ap, ◌∙◌, subst, inl, inr, arith, MatchResult}
+use Rattle.std.proofs.Common.{◌≡◌, ℕ, ◌<◌, true, false, ◌⊎◌, List, [], ◌∷◌, ◌++◌, map, length, get_or, set, IfOk, IfErr, Some, None, Ok, Err, Option, Result, sym, refl, ap, ◌∙◌, subst, inl, inr, arith, MatchResult}
 use mathlib.Core.Path.{fun_ext}
 use Rattle.std.proofs.lemmas.List.{append-nil, append_assoc, map-set, get_or-map, set-get_or}
 use Rattle.std.proofs.lemmas.Bool.{cases_Bool, cases_eq, both_ways}
@@ -13,7 +13,7 @@ use Rattle.books.specs.declared.edits.Edit.TheVariants.{Growth, Strike}
 use Rattle.books.specs.declared.edits.Entry.{Entry}
 use Rattle.books.specs.declared.states.State.{State}
 use Rattle.books.specs.declared.states.State.TheVariants.{Blank, Struck, Standing}
-use Rattle.books.specs.Causes.{answered, first_cause, growth_causes, strike_causes}
+use Rattle.books.specs.Causes.{answered}
 use Rattle.books.specs.Edits.{Among, Explains, Led, CalledFor, Done, Course, Tried, nothing, then, told, verdict, Wrote, end, wrote, idle}
 use Rattle.books.specs.States.{is_struck, New, Hangs, Grown, StruckOut, Same}
 use Rattle.books.proofs.Members.{among_some}

@@ -1,5 +1,5 @@
 -- What is among the elements of a list with one more at its end.
-use Rattle.std.proofs.Common.{◌≡◌, ◌<◌, ◌⊎◌, List, [], ◌∷◌, ◌++◌, length, sym, refl, ap, ◌∙◌, subst, inl, inr, arith}
+use Rattle.std.proofs.Common.{◌≡◌, ◌<◌, ◌⊎◌, List, [], ◌∷◌, ◌++◌, length, inl, inr, arith}
 use Rattle.books.specs.Edits.{Among, here, there}
 
 pub among_more : {A : Type 0} {x : A} {xs : List A} (y : A) → Among x xs → Among x (xs ++ y ∷ [])

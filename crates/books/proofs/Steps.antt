@@ -1,5 +1,5 @@
 -- How a list of edits goes on: an accepted growth, an accepted strike, a refusal.
-use Rattle.std.proofs.Common.{◌≡◌, ℕ, ◌<◌, ◌≤◌, Bool, true, false, ◌⊎◌, List, [], ◌∷◌, ◌++◌, sym, refl, ap, ◌∙◌, subst, inl, inr, arith}
+use Rattle.std.proofs.Common.{◌≡◌, ℕ, ◌≤◌, true, ◌⊎◌, List, [], ◌∷◌, ◌++◌, sym, refl, ap, ◌∙◌, subst, inl, inr, arith}
 use Rattle.lengths.specs.Figures.{Figures}
 use Rattle.std.proofs.lemmas.Bool.{cases_eq}
 use Rattle.books.specs.declared.edits.Edit.{Edit}

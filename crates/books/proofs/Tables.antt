@@ -1,11 +1,11 @@
 -- What the tables of causes say where no cause holds.
-use Rattle.std.proofs.Common.{◌≡◌, ℕ, ◌<◌, ◌≤◌, Bool, true, false, not, ◌||◌, eqb, ltb, leb, List, [], ◌∷◌, Some, None, Option, sym, refl, ap, ◌∙◌, arith}
+use Rattle.std.proofs.Common.{◌≡◌, ℕ, ◌<◌, ◌≤◌, Bool, true, false, not, eqb, ltb, leb, None, Option, refl, arith}
 use Rattle.std.proofs.lemmas.Bool.{ltb-false, leb-false, eqb-false, not-false, or_parts}
 use Rattle.lengths.specs.Figures.{Figures, Less}
 use Rattle.books.specs.declared.causes.Refusal.{Refusal}
 use Rattle.books.specs.declared.states.State.{State}
 use Rattle.books.specs.declared.states.State.TheVariants.{Blank, Struck, Standing}
-use Rattle.books.specs.Causes.{Table, pick, first_cause, growth_causes, strike_causes}
+use Rattle.books.specs.Causes.{pick, first_cause, growth_causes, strike_causes}
 use Rattle.books.specs.States.{is_blank, is_struck, stands}
 
 -- no cause holds: not the first, and none after it

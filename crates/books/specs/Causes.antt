@@ -1,5 +1,5 @@
 -- The refusals of a book, with the numbers of docs/refusals.md, and the order in which each call checks.
-use Rattle.std.specs.Prelude.{ℕ, Bool, true, false, not, ◌&&◌, ◌||◌, List, [], ◌∷◌, Some, None, Ok, Err, Option, Result, ◌==◌, nat_le, nat_lt}
+use Rattle.std.specs.Prelude.{ℕ, Bool, true, false, not, ◌||◌, List, [], ◌∷◌, Some, None, Ok, Err, Option, Result, ◌==◌, nat_le, nat_lt}
 use Rattle.lengths.specs.Figures.{Figures}
 use Rattle.books.specs.declared.causes.Refusal.{Refusal}
 use Rattle.books.specs.declared.causes.Refusal.TheVariants.{OutOfRange, BadParent, BadRun, BadDrop, TagStands, TagStruck, ParentBlank, ParentStruck, TagBlank}

@@ -38,6 +38,7 @@ impl<'a, K: Length> TableBook<'a, K> {
     pub fn open(rows: &'a mut [Row<K>]) -> TableBook<'a, K>
         ensures size { extent_of result.rows.now ≡ 1 + min 255 (length rows.old) }
         ensures new { New K.figures (state_of K.figures result.rows.now) }
+        ensures blank { (i : ℕ) → i < 255 → row_at result.rows.now i ≡ Blank }
         ensures place { result.rows.ghost_name ≡ rows.entry.ghost_name }
         ensures rest { drop 255 result.rows.now ≡ drop 255 rows.old }
     {

@@ -1,9 +1,11 @@
 // The table book as a book.
-ghost use Rattle.std.specs.Prelude.{◌≡◌, drop as after, MatchResult};
-ghost use Rattle.books.specs.declared.states.State.TheVariants.{Standing};
+ghost use Rattle.std.specs.Prelude.{◌≡◌, ◌-◌, drop as after, slice_set, MatchResult, OnOk, OnErr};
+ghost use Rattle.tables.specs.declared.lent.TableBook.{TableBook as ATable};
+ghost use Rattle.books.specs.declared.states.State.TheVariants.{Struck, Standing};
 ghost use Rattle.books.specs.Causes.{answered, first_cause, growth_causes, strike_causes};
+ghost use Rattle.books.specs.Edits.{tag_of, written};
 ghost use Rattle.books.specs.States.{Grown, StruckOut, Same};
-ghost use Rattle.tables.specs.Rows.{extent_of, state_of};
+ghost use Rattle.tables.specs.Rows.{row_of, extent_of, state_of};
 
 use crate::lent::TableBook;
 use crate::reading::{size_of, state_at};
@@ -40,6 +42,10 @@ impl<'a, K: Length> Book for TableBook<'a, K> {
 
     ghost state = { λ b. state_of K.Length.figures b.rows.now };
 
+    ghost leaves = { λ a b. (b.rows.ghost_name ≡ a.rows.ghost_name) × (after 255 b.rows.now ≡ after 255 a.rows.now) };
+
+    ghost writes = { λ a e b. (b.rows.ghost_name ≡ a.rows.ghost_name) × (b.rows.now ≡ slice_set a.rows.now (tag_of e - 2) (row_of (written e))) };
+
     fn size(&self) -> u32 {
         size_of(self.rows)
     }
@@ -58,6 +64,9 @@ impl<'a, K: Length> Book for TableBook<'a, K> {
         ensures states { MatchResult result (λ _. Grown (state_of K.Length.figures self.old.rows.now) (state_of K.Length.figures self.new.rows.now) tag (Standing parent run drop)) (λ _. Same (state_of K.Length.figures self.old.rows.now) (state_of K.Length.figures self.new.rows.now)) }
         ensures place { self.new.rows.ghost_name ≡ self.old.rows.ghost_name }
         ensures rest { after 255 self.new.rows.now ≡ after 255 self.old.rows.now }
+        ensures writes { OnOk result ((self.new.rows.ghost_name ≡ self.old.rows.ghost_name) × (self.new.rows.now ≡ slice_set self.old.rows.now (tag - 2) (row_of (Standing parent run drop)))) }
+        ensures refused { OnErr result (self.new ≡ self.old) }
+        ensures leaves { (a : ATable K) → (self.old.rows.ghost_name ≡ a.rows.ghost_name) × (after 255 self.old.rows.now ≡ after 255 a.rows.now) → (self.new.rows.ghost_name ≡ a.rows.ghost_name) × (after 255 self.new.rows.now ≡ after 255 a.rows.now) }
     {
         if let Some(cause) = against_growth(self, tag, parent, run, drop) {
             return Err(Refused { cause, tag });
@@ -74,6 +83,9 @@ impl<'a, K: Length> Book for TableBook<'a, K> {
         ensures states { MatchResult result (λ _. StruckOut (state_of K.Length.figures self.old.rows.now) (state_of K.Length.figures self.new.rows.now) tag) (λ _. Same (state_of K.Length.figures self.old.rows.now) (state_of K.Length.figures self.new.rows.now)) }
         ensures place { self.new.rows.ghost_name ≡ self.old.rows.ghost_name }
         ensures rest { after 255 self.new.rows.now ≡ after 255 self.old.rows.now }
+        ensures writes { OnOk result ((self.new.rows.ghost_name ≡ self.old.rows.ghost_name) × (self.new.rows.now ≡ slice_set self.old.rows.now (tag - 2) (row_of Struck))) }
+        ensures refused { OnErr result (self.new ≡ self.old) }
+        ensures leaves { (a : ATable K) → (self.old.rows.ghost_name ≡ a.rows.ghost_name) × (after 255 self.old.rows.now ≡ after 255 a.rows.now) → (self.new.rows.ghost_name ≡ a.rows.ghost_name) × (after 255 self.new.rows.now ≡ after 255 a.rows.now) }
     {
         if let Some(cause) = against_strike(self, tag) {
             return Err(Refused { cause, tag });

@@ -1,4 +1,4 @@
-use Rattle.std.proofs.Common.{◌≡◌, sym, refl, ap, ◌∙◌, subst, rules}
+use Rattle.std.proofs.Common.{◌≡◌, sym, ap, ◌∙◌, subst}
 use Rattle.books.specs.declared.edits.Edit.{Edit}
 use Rattle.books.specs.Edits.{Done, told, verdict}
 use Rattle.books.proofs.Courses.{growth_done, strike_done, when_accepted, when_refused, done_as, step_led}

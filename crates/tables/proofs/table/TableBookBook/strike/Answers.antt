@@ -1,4 +1,4 @@
-use Rattle.std.proofs.Common.{◌-◌, ◌<◌, length, sym, refl, ap, arith, rules}
+use Rattle.std.proofs.Common.{◌-◌, ◌<◌, length, sym, refl, ap, ◌∙◌, arith, rules}
 use Rattle.std.proofs.lemmas.List.{drop-set-lt}
 use Rattle.books.specs.declared.states.State.TheVariants.{Struck}
 use Rattle.books.specs.Causes.{answered}
@@ -33,4 +33,7 @@ returns g c =
       states = struck_rows k rows c.args.tag c.args.self.now.kept m;
       place = refl;
       rest = drop-set-lt 255 rows (c.args.tag - 2) (row_of (Struck)) (omega (arith, m.low, m.high));
+      writes = (refl, refl);
+      refused = tt;
+      leaves = λ a h. (h.0, drop-set-lt 255 rows (c.args.tag - 2) (row_of Struck) (omega (arith, m.low, m.high)) ∙ h.1);
     }
