@@ -1,12 +1,11 @@
 -- What a log keeps after an accepted edit.
-use Rattle.std.proofs.Common.{◌≡◌, ℕ, zero, suc, ◌+◌, ◌-◌, ◌/◌, ◌<◌, ◌≤◌, min, true, List, [], ◌∷◌, ◌++◌, map, length, take, drop, set, None, sym, refl, ap, ◌∙◌, subst, arith}
+use Rattle.std.proofs.Common.{◌≡◌, ℕ, zero, suc, ◌+◌, ◌-◌, ◌/◌, ◌<◌, min, List, [], ◌∷◌, ◌++◌, map, length, take, drop, set, None, sym, refl, ap, ◌∙◌, subst, arith}
 use Rattle.std.proofs.lemmas.List.{length-set, map_push, take_more_set, take-set-le, drop-set-lt}
 use Rattle.lengths.specs.Figures.{Figures}
 use Rattle.books.specs.declared.edits.Answer.TheVariants as answers
 use Rattle.books.specs.declared.edits.Edit.{Edit}
 use Rattle.books.specs.declared.edits.Edit.TheVariants.{Growth, Strike}
-use Rattle.books.specs.declared.edits.Noted.{Noted}
-use Rattle.books.specs.declared.states.State.{State}
+use Rattle.books.specs.declared.edits.Entry.{Entry}
 use Rattle.books.specs.declared.states.State.TheVariants.{Blank, Struck, Standing}
 use Rattle.books.specs.Causes.{answered, first_cause, growth_causes, strike_causes}
 use Rattle.books.specs.Edits.{accepted, told, verdict, Done, Course}
@@ -52,7 +51,7 @@ replays_more {K} {k} entries used e h v d r =
       fresh = r.fresh;
       new = r.new;
       course = subst (λ (n : ℕ). Course k n (map accepted (take (used + 1) (set entries used e))) r.fresh next) (sym (extent_set entries used e))
-          (subst (λ (ns : List (Noted K)). Course k (extent_of entries) ns r.fresh next) (sym more) (course_more (accepted e) r.course v d));
+          (subst (λ (ns : List (Entry K)). Course k (extent_of entries) ns r.fresh next) (sym more) (course_more (accepted e) r.course v d));
     }
 
 -- an accepted growth

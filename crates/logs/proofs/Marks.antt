@@ -1,11 +1,9 @@
 -- Marks that stand for rows.
-use Rattle.std.proofs.Common.{◌≡◌, ℕ, zero, suc, ◌+◌, ◌-◌, ◌<◌, ◌≤◌, Bool, true, false, cond, leb, ◌⊎◌, List, [], ◌∷◌, ◌++◌, map, length, get_or, take, set, replicate, sym, refl, ap, ◌∙◌, inl, inr, arith}
+use Rattle.std.proofs.Common.{◌≡◌, ℕ, zero, suc, ◌+◌, ◌-◌, ◌<◌, ◌≤◌, leb, List, ◌∷◌, map, length, get_or, take, set, replicate, sym, refl, ap, ◌∙◌, inl, inr, arith}
 use Rattle.std.proofs.lemmas.List.{map-set, get_or-map, get_or_past, length-map, take_more, take-replicate}
 use Rattle.std.proofs.lemmas.Bool.{cases_Bool, cond-true, cond-false}
 use Rattle.books.specs.declared.edits.Edit.{Edit}
-use Rattle.books.specs.declared.states.State.{State}
 use Rattle.books.specs.declared.states.State.TheVariants.{Blank}
-use Rattle.rows.specs.declared.row.Row.{Row}
 use Rattle.rows.specs.Rows.{row_of, row_at}
 use Rattle.books.specs.Edits.{tag_of, written}
 use Rattle.logs.specs.Logs.{replay_one, replay, rows_of, extent_of}

@@ -1,7 +1,7 @@
 -- How many edits may still be accepted, counted over rows.
-use Rattle.std.proofs.Common.{◌≡◌, ℕ, zero, suc, ◌+◌, ◌*◌, ◌<◌, ◌≤◌, List, [], ◌∷◌, length, set, replicate, sym, refl, ap, ◌∙◌, arith}
+use Rattle.std.proofs.Common.{◌≡◌, ℕ, zero, suc, ◌+◌, ◌*◌, ◌<◌, ◌≤◌, List, [], ◌∷◌, length, set, replicate, refl, arith}
 use Rattle.books.specs.declared.states.State.{State}
-use Rattle.books.specs.declared.states.State.TheVariants.{Blank, Struck, Standing}
+use Rattle.books.specs.declared.states.State.TheVariants.{Blank}
 use Rattle.rows.specs.declared.row.Row.{Row}
 use Rattle.rows.specs.Rows.{row_of, row_at}
 use Rattle.books.specs.States.{left}

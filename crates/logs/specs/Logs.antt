@@ -1,5 +1,5 @@
 -- What the edits of a log come to.
-use Rattle.std.specs.Prelude.{◌≡◌, ℕ, ◌+◌, ◌-◌, ◌*◌, ◌/◌, ◌≤◌, min, Bool, true, false, cond, List, [], ◌∷◌, map, length, take, drop, replicate, nat_le, slice_set}
+use Rattle.std.specs.Prelude.{◌≡◌, ℕ, ◌+◌, ◌-◌, ◌*◌, ◌/◌, ◌≤◌, min, cond, List, [], ◌∷◌, map, length, take, drop, replicate, nat_le, slice_set}
 use Rattle.lengths.specs.Figures.{Figures}
 use Rattle.books.specs.declared.edits.Edit.{Edit}
 use Rattle.books.specs.declared.states.State.{State}
@@ -7,7 +7,7 @@ use Rattle.books.specs.declared.states.State.TheVariants.{Blank}
 use Rattle.books.specs.States.{New, left}
 use Rattle.books.specs.Edits.{tag_of, written, accepted, Course}
 use Rattle.rows.specs.declared.row.Row.{Row}
-use Rattle.rows.specs.Rows.{row_of, state_of, Kept}
+use Rattle.rows.specs.Rows.{row_of, state_of}
 
 -- replaying one edit writes the row of its tag; replaying a list begins with its first edit, the oldest
 abbrev pub replay_one : {K : Type 0} → List (Row K) → Edit K → List (Row K)

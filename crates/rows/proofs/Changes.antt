@@ -1,8 +1,8 @@
 -- What a row that is written changes: a growth, a strike; and that every table is lawful.
-use Rattle.std.proofs.Common.{◌≡◌, ℕ, zero, suc, ◌+◌, ◌-◌, ◌<◌, ◌≤◌, min, Bool, true, false, cond, not, ◌&&◌, ◌||◌, eqb, ltb, leb, ◌⊎◌, List, length, get_or, set, sym, refl, ap, ◌∙◌, subst, inl, inr, arith}
+use Rattle.std.proofs.Common.{◌≡◌, ℕ, zero, suc, ◌+◌, ◌-◌, ◌<◌, ◌≤◌, min, Bool, true, false, cond, not, ◌&&◌, ◌||◌, ltb, leb, List, length, set, sym, refl, ap, ◌∙◌, subst, inl, inr, arith}
 use Rattle.std.proofs.lemmas.List.{length-set, get_or-set_same, get_or-set_other}
 use Rattle.std.proofs.lemmas.Bool.{cases_Bool, cases_eq, cases_lt, and_parts, and_left, cond-true, cond-false, both_ways, or_cases, ltb-true, le-leb, lt-ltb, and_from, or_left, or_right}
-use Rattle.lengths.specs.Figures.{Figures, Less}
+use Rattle.lengths.specs.Figures.{Figures}
 use Rattle.books.specs.declared.states.State.{State}
 use Rattle.books.specs.declared.states.State.TheVariants.{Blank, Struck, Standing}
 use Rattle.books.specs.States as states
@@ -10,7 +10,7 @@ use Rattle.books.specs.States.{is_blank, stands, Tied, Lawful, Hangs, Grown, Str
 use Rattle.books.proofs.Tables.{MayGrow, MayStrike}
 use Rattle.rows.specs.declared.row.Row.{Row}
 use Rattle.rows.specs.Rows.{row_of, row_at, extent_of, fit, read, state_of, sound, Kept}
-use Rattle.rows.proofs.Meaning.{Fit, fit_parts, state_root, state_none, state_beyond, state_row, read_stands, read_struck, read_fallen}
+use Rattle.rows.proofs.Meaning.{fit_parts, state_root, state_none, state_beyond, state_row, read_stands, read_struck, read_fallen}
 use Rattle.books.proofs.Steps.{standing_as}
 
 -- a row is read alike where the parent that it names stands, or does not, in both

@@ -1,12 +1,12 @@
 -- What the rows mean, as equations: the root, tags outside the table, and what a row says of its tag.
-use Rattle.std.proofs.Common.{◌≡◌, ℕ, zero, suc, ◌+◌, ◌-◌, ◌<◌, ◌≤◌, Bool, true, false, cond, ◌&&◌, eqb, ltb, leb, ◌⊎◌, List, sym, refl, ap, ◌∙◌, subst, inl, inr, arith}
+use Rattle.std.proofs.Common.{◌≡◌, ℕ, zero, suc, ◌-◌, ◌<◌, ◌≤◌, true, false, cond, ◌&&◌, eqb, ltb, leb, List, sym, refl, ap, ◌∙◌, inl, inr, arith}
 use Rattle.std.proofs.lemmas.Bool.{cases_Bool, and_parts, and_from, and_left, and_right, leb-true, ltb-true, le-leb, lt-leb, ne_eqb, cond-true, cond-false}
 use Rattle.lengths.specs.Figures.{Figures, Less}
 use Rattle.books.specs.declared.states.State.{State}
 use Rattle.books.specs.declared.states.State.TheVariants.{Blank, Struck, Standing}
 use Rattle.books.specs.States.{stands}
 use Rattle.rows.specs.declared.row.Row.{Row}
-use Rattle.rows.specs.Rows.{row_of, row_at, extent_of, fit, read, states, state_of}
+use Rattle.rows.specs.Rows.{row_at, extent_of, fit, read, states, state_of}
 
 -- what fits
 pub record Fit {K : Type 0} (k : Figures K) (t p : ℕ) (run drop : K) : Type 0 where

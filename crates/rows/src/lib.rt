@@ -1,5 +1,6 @@
 //! Rows: one for each tag from 2 upward, and what a list of them says of each tag. What keeps the states of tags in rows is
 //! built on them; this crate has no book of its own.
+#![tactic(auto)]
 
 mod clearing;
 mod interface;

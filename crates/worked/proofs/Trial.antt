@@ -8,7 +8,7 @@ use Rattle.books.specs.declared.causes.Refusal.TheVariants.{OutOfRange, BadParen
 use Rattle.books.specs.declared.edits.Answer.TheVariants as answers
 use Rattle.books.specs.declared.edits.Edit.{Edit}
 use Rattle.books.specs.declared.edits.Edit.TheVariants.{Strike}
-use Rattle.books.specs.declared.edits.Noted.{Noted}
+use Rattle.books.specs.declared.edits.Entry.{Entry}
 use Rattle.books.specs.declared.states.State.{State}
 use Rattle.books.specs.declared.states.State.TheVariants.{Blank, Struck, Standing}
 use Rattle.books.specs.Edits.{accepted, Tried, nothing, then}
@@ -72,10 +72,10 @@ struck_out = record {
 }
 
 -- the edits with their answers
-abbrev refused : Edit Millimetres → Refusal → ℕ → Noted Millimetres
+abbrev refused : Edit Millimetres → Refusal → ℕ → Entry Millimetres
 refused e r tag = record { edit = e; answer = answers.Refused (record { cause = r; tag = tag }) }
 
-abbrev answered : List (Noted Millimetres)
+abbrev answered : List (Entry Millimetres)
 answered =
     refused (growth_of 3 3 0) BadParent 3
     ∷ (refused (growth_of 2 1 0) BadRun 2

@@ -4,7 +4,7 @@ use Rattle.lengths.specs.declared.metric.Millimetres.{Millimetres}
 use Rattle.lengths.specs.Whole.{mm}
 use Rattle.books.specs.declared.edits.Edit.{Edit}
 use Rattle.books.specs.declared.edits.Edit.TheVariants.{Growth, Strike}
-use Rattle.books.specs.declared.edits.Noted.{Noted}
+use Rattle.books.specs.declared.edits.Entry.{Entry}
 use Rattle.books.specs.Edits.{answer_number, Tried}
 use Rattle.worked.specs.declared.Case.{Case}
 
@@ -37,7 +37,7 @@ cases =
 -- the edits of the table can be done one after another on a new book of 256 tags, and are answered with its numbers; no book
 -- answers them otherwise
 pub record WorkedOut (table : List Case) : Type 0 where
-  pub noted : List (Noted Millimetres)
+  pub noted : List (Entry Millimetres)
   pub tried : Tried mm 256 (map (λ c. c.edit) table) noted
   pub numbers : map (λ n. answer_number n.answer) noted ≡ map (λ c. c.number) table
-  pub only : (ns : List (Noted Millimetres)) → Tried mm 256 (map (λ c. c.edit) table) ns → ns ≡ noted
+  pub only : (ns : List (Entry Millimetres)) → Tried mm 256 (map (λ c. c.edit) table) ns → ns ≡ noted

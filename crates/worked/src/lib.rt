@@ -1,4 +1,6 @@
 //! Worked cases: edits with the numbers that they are answered with, as anyone can work them out by hand.
+#![tactic(auto)]
+
 ghost use Rattle.std.specs.Prelude.{◌≡◌};
 ghost use Rattle.books.specs.declared.edits.Edit.TheVariants.{Strike};
 ghost use Rattle.worked.specs.Worked.{growth_of, case, cases, WorkedOut};

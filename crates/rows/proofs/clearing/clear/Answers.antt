@@ -1,4 +1,4 @@
-use Rattle.std.proofs.Common.{◌≡◌, ◌<◌, ◌⊎◌, length, ap, ◌∙◌, inl, inr, arith, rules, below_more}
+use Rattle.std.proofs.Common.{◌<◌, length, ap, ◌∙◌, inl, inr, arith, rules, below_more}
 use Rattle.std.proofs.lemmas.List.{get_or_past, length-set, drop-set-lt}
 use Rattle.std.proofs.lemmas.Bool.{cases_lt}
 use Rattle.books.specs.declared.states.State.TheVariants.{Blank}
@@ -6,8 +6,8 @@ use Rattle.rows.specs.Rows.{row_of}
 use Rattle.rows.proofs.Blanks.{blank_here, blank_other}
 use Rattle.rows.proofs.clearing.clear.Goals as goal
 
-pub offset-bounds-rows-i : goal.offset-bounds-rows-i
-offset-bounds-rows-i g c = let h : c.loop-i.i < length c.args.rows.now = omega arith in search rules
+pub offset_bounds-rows-i : goal.offset_bounds-rows-i
+offset_bounds-rows-i g c = let h : c.loop-i.i < length c.args.rows.now = omega arith in search rules
 
 pub loop-i-preserved : goal.loop-i-preserved
 loop-i-preserved g c =

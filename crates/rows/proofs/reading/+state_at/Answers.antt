@@ -1,13 +1,13 @@
-use Rattle.std.proofs.Common.{◌≡◌, ℕ, ◌<◌, ◌≤◌, true, false, sym, ap, ◌∙◌, arith, rules}
+use Rattle.std.proofs.Common.{◌≡◌, true, false, sym, ap, ◌∙◌, arith, rules}
 use Rattle.books.specs.States.{stands}
-use Rattle.rows.specs.Rows.{extent_of, fit, state_of}
+use Rattle.rows.specs.Rows.{fit, state_of}
 use Rattle.rows.proofs.Meaning.{state_root, state_low, state_beyond, said, read_blank, read_struck, read_stands, read_unfit, read_fallen}
 use Rattle.rows.proofs.reading.+state_at.Goals as goal
 use Rattle.rows.proofs.reading.+state_at.Goals.{then-tag-lt2-via-then-tag-lt2, then-tag-lt2-via-else-tag-lt2+then-tag-extent}
 
 pub returns-then-tag-eq1 : goal.returns-then-tag-eq1
 returns-then-tag-eq1 g t c =
-    let k = g.Kind.Length.figures in
+    let k = g.R.Kind.Length.figures in
     let root = state_root k (g.R.Rows.rows c.args.rows.now) in
     let zero = c.zero.ensures in
     let zero' = c.zero-then-tag-eq1.ensures in
@@ -16,43 +16,43 @@ returns-then-tag-eq1 g t c =
 
 pub returns-then-tag-lt2 : goal.returns-then-tag-lt2
 returns-then-tag-lt2 g t c = elim c.then-tag-lt2.branch [
-  | then-tag-lt2-via-then-tag-lt2 w ↦ sym (state_low g.Kind.Length.figures (g.R.Rows.rows c.args.rows.now) c.args.tag w.if-tag-lt2.true c.if-tag-eq1.false)
-  | then-tag-lt2-via-else-tag-lt2+then-tag-extent w ↦ sym (state_beyond g.Kind.Length.figures (g.R.Rows.rows c.args.rows.now) c.args.tag (omega (arith, w.extent.ensures, w.if-tag-extent.true)))
+  | then-tag-lt2-via-then-tag-lt2 w ↦ sym (state_low g.R.Kind.Length.figures (g.R.Rows.rows c.args.rows.now) c.args.tag w.if-tag-lt2.true c.if-tag-eq1.false)
+  | then-tag-lt2-via-else-tag-lt2+then-tag-extent w ↦ sym (state_beyond g.R.Kind.Length.figures (g.R.Rows.rows c.args.rows.now) c.args.tag (omega (arith, w.extent.ensures, w.if-tag-extent.true)))
 ]
 
 pub returns-in-Blank : goal.returns-in-Blank
 returns-in-Blank g t c =
-    let k = g.Kind.Length.figures in
+    let k = g.R.Kind.Length.figures in
     let rows = g.R.Rows.rows c.args.rows.now in
     read_blank k c.args.tag (state_of k rows) ∙ said k rows c.args.tag _ c.if-tag-lt2.false (omega (arith, c.extent.ensures, c.if-tag-extent.false)) (sym c.row-said.ensures ∙ c.in-Blank.is)
 
 pub returns-in-Struck : goal.returns-in-Struck
 returns-in-Struck g t c =
-    let k = g.Kind.Length.figures in
+    let k = g.R.Kind.Length.figures in
     let rows = g.R.Rows.rows c.args.rows.now in
     read_struck k c.args.tag (state_of k rows) ∙ said k rows c.args.tag _ c.if-tag-lt2.false (omega (arith, c.extent.ensures, c.if-tag-extent.false)) (sym c.row-said.ensures ∙ c.in-Struck.is)
 
 pub returns-then-not-fits : goal.returns-then-not-fits
 returns-then-not-fits g t c =
-    let k = g.Kind.Length.figures in
+    let k = g.R.Kind.Length.figures in
     let rows = g.R.Rows.rows c.args.rows.now in
     let p = c.in-Standing.parent in
     let no : fit k c.args.tag p c.in-Standing.run' c.in-Standing.drop ≡ false = search rules in
     read_unfit k c.args.tag (state_of k rows) p c.in-Standing.run' c.in-Standing.drop no
     ∙ said k rows c.args.tag _ c.if-tag-lt2.false (omega (arith, c.extent.ensures, c.if-tag-extent.false)) (sym c.row-said.ensures ∙ c.in-Standing.is)
 
-pub returns-then-not-is-standing : goal.returns-then-not-is-standing
-returns-then-not-is-standing g t c =
-    let k = g.Kind.Length.figures in
+pub returns-then-not-is_standing : goal.returns-then-not-is_standing
+returns-then-not-is_standing g t c =
+    let k = g.R.Kind.Length.figures in
     let rows = g.R.Rows.rows c.args.rows.now in
     let p = c.in-Standing.parent in
     let no : stands (state_of k rows p) ≡ false = search rules in
     read_fallen k c.args.tag (state_of k rows) p c.in-Standing.run' c.in-Standing.drop no
     ∙ said k rows c.args.tag _ c.if-tag-lt2.false (omega (arith, c.extent.ensures, c.if-tag-extent.false)) (sym c.row-said.ensures ∙ c.in-Standing.is)
 
-pub returns-else-not-is-standing : goal.returns-else-not-is-standing
-returns-else-not-is-standing g t c =
-    let k = g.Kind.Length.figures in
+pub returns-else-not-is_standing : goal.returns-else-not-is_standing
+returns-else-not-is_standing g t c =
+    let k = g.R.Kind.Length.figures in
     let rows = g.R.Rows.rows c.args.rows.now in
     let p = c.in-Standing.parent in
     let fits : fit k c.args.tag p c.in-Standing.run' c.in-Standing.drop ≡ true = search rules in

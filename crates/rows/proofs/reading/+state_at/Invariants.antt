@@ -1,4 +1,4 @@
 use Rattle.rows.proofs.reading.+state_at.Given as goal
 
-abbrev pub decreases-state-at : goal.decreases-state-at
-decreases-state-at g l = l.tag
+abbrev pub decreases-state_at : goal.decreases-state_at
+decreases-state_at g l = l.tag

@@ -1,4 +1,4 @@
-use Rattle.std.proofs.Common.{sym, ap, rules}
+use Rattle.std.proofs.Common.{sym, ap}
 use Rattle.std.proofs.lemmas.List.{get_or_past}
 use Rattle.books.specs.declared.states.State.TheVariants.{Blank}
 use Rattle.rows.specs.Rows.{row_of}

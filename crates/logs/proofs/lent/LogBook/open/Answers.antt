@@ -1,11 +1,11 @@
-use Rattle.std.proofs.Common.{◌≡◌, refl, rules}
+use Rattle.std.proofs.Common.{refl}
 use Rattle.rows.proofs.Blanks.{blank_new, blank_kept}
 use Rattle.logs.proofs.Logging.{empty_rows, empty_room}
 use Rattle.books.specs.Edits.{nothing}
 use Rattle.logs.proofs.lent.LogBook.open.Goals as goal
 
-pub invariant-of-result : goal.invariant-of-result
-invariant-of-result g c = (blank_kept _ (empty_rows c.args.entries.now), (empty_room c.args.entries.now, tt))
+pub invariant_of-result : goal.invariant_of-result
+invariant_of-result g c = record { kept = blank_kept _ (empty_rows c.args.entries.now); room = empty_room c.args.entries.now }
 
 pub returns : goal.returns
 returns g c =

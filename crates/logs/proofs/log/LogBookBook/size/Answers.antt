@@ -1,4 +1,4 @@
-use Rattle.std.proofs.Common.{ℕ, refl, subst, arith, rules}
+use Rattle.std.proofs.Common.{ℕ, refl, subst, arith}
 use Rattle.books.specs.States.{Lawful}
 use Rattle.rows.specs.Rows.{state_of}
 use Rattle.rows.proofs.Changes.{lawful_rows}

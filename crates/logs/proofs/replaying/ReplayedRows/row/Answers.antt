@@ -17,8 +17,8 @@ returns-then-mark-self g c =
     let marks = c.args.self.now.marks.now in
     mark_past edits (get_or marks c.args.index 0) c.if-mark-self.true ∙ row_marked edits marks c.args.index c.if-index-self.false
 
-pub offset-bounds-self-mark : goal.offset-bounds-self-mark
-offset-bounds-self-mark g c =
+pub offset_bounds-self-mark : goal.offset_bounds-self-mark
+offset_bounds-self-mark g c =
     let m = get_or c.args.self.now.marks.now c.args.index 0 in
     let h : m - 1 < length c.args.self.now.edits.now = omega (arith, c.if-mark-lt1.false, c.if-mark-self.false) in
     search rules
