@@ -1,4 +1,4 @@
-use Rattle.std.proofs.Common.{◌≡◌, true, sym, ap, ◌∙◌, arith, rules}
+use Rattle.std.proofs.Common.{arith}
 use Rattle.lengths.specs.Figures.{Sum, one, both}
 use Rattle.lengths_tests.proofs.laws.adds_alike.Goals as goal
 

@@ -1,4 +1,4 @@
-use Rattle.std.proofs.Common.{◌≡◌, true, arith, rules}
+use Rattle.std.proofs.Common.{arith, rules}
 use Rattle.lengths.specs.Figures.{one}
 use Rattle.lengths_tests.proofs.laws.stays_less.Goals as goal
 
