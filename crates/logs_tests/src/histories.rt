@@ -1,0 +1,118 @@
+// Lists of edits on each book, with what each is answered.
+use books::{Answer, Book, Edit, Entry, apply, attempt};
+use lengths::{KindC, KindM, Length, Millimetres, kind_c};
+use logs::LogBook;
+use std::process::Abort;
+use tables::{Row, TableBook};
+use worked::worked_cases;
+
+/// The growth of a tag with no drop, or where the parent is 0 its strike.
+fn edit<K: Length>(tag: u32, parent: u32, run: K) -> Edit<K> {
+    if parent == 0 {
+        return Edit::Strike { tag };
+    }
+    Edit::Growth {
+        tag,
+        parent,
+        run,
+        drop: K::zero(),
+    }
+}
+
+// tag and parent of edits on a new book of six tags, a strike where the parent is 0, each with its answer: a branch is struck
+// with all that hangs from it, and stays struck
+const HISTORY: [(u32, u32, u8); 10] = [
+    (2, 1, 0),
+    (4, 2, 0),
+    (5, 4, 0),
+    (3, 0, 9),
+    (2, 0, 0),
+    (4, 0, 6),
+    (4, 1, 6),
+    (6, 5, 8),
+    (3, 1, 0),
+    (1, 0, 1),
+];
+
+/// Whether a new book answers the history so.
+fn answers<B: Book>(rt: &impl Abort, book: &mut B, run: B::Kind) {
+    for (tag, parent, answer) in HISTORY {
+        assert!(rt; attempt(book, edit(tag, parent, run)).number() == answer);
+    }
+}
+
+#[test]
+fn what_was_struck_stays_struck_in_a_table(rt: HostRuntime) {
+    let mut rows = [Row::<KindM>::blank(); 5];
+    let mut book = TableBook::open(&mut rows);
+    answers(&rt, &mut book, Millimetres { value: 5 });
+}
+
+#[test]
+fn what_was_struck_stays_struck_in_a_log(rt: HostRuntime) {
+    let mut entries = [Edit::<KindC>::Strike { tag: 2 }; 10];
+    let mut book = LogBook::open(&mut entries);
+    answers(&rt, &mut book, kind_c(1, 5));
+}
+
+#[test]
+fn worked_cases_come_out_in_a_table(rt: HostRuntime) {
+    let mut rows = [Row::<KindM>::blank(); 255];
+    let mut book = TableBook::open(&mut rows);
+    for case in worked_cases() {
+        assert!(rt; attempt(&mut book, case.edit).number() == case.number);
+    }
+}
+
+#[test]
+fn worked_cases_come_out_in_a_log(rt: HostRuntime) {
+    let mut entries = [Edit::<KindM>::Strike { tag: 9 }; 510];
+    let mut book = LogBook::open(&mut entries);
+    for case in worked_cases() {
+        assert!(rt; attempt(&mut book, case.edit).number() == case.number);
+    }
+}
+
+/// An edit that has no answer yet, in kind M with a run of 5.
+fn waiting(tag: u32, parent: u32) -> Entry<KindM> {
+    Entry {
+        edit: edit(tag, parent, Millimetres { value: 5 }),
+        answer: Answer::Waiting,
+    }
+}
+
+#[test]
+fn a_list_of_edits_is_answered_one_after_another(rt: HostRuntime) {
+    let mut noted = [
+        waiting(2, 1),
+        waiting(4, 2),
+        waiting(2, 0),
+        waiting(4, 0),
+        waiting(4, 1),
+        waiting(5, 4),
+    ];
+    let mut entries = [Edit::Strike { tag: 2 }; 8];
+    let mut book = LogBook::open(&mut entries);
+    apply(&mut book, &mut noted);
+    let answers = [0, 0, 0, 6, 6, 8];
+    for (noted, answer) in noted.iter().zip(answers.iter()) {
+        assert!(rt; noted.answer.number() == *answer);
+    }
+}
+
+#[test]
+fn a_log_takes_every_edit_that_a_book_can_accept(rt: HostRuntime) {
+    let mut entries = [Edit::<KindM>::Strike { tag: 0 }; 510];
+    let mut book = LogBook::open(&mut entries);
+    for tag in 2..257u32 {
+        let run = Millimetres { value: 1 };
+        assert!(rt;
+            book.grow(tag, tag - 1, run, Millimetres { value: 0 })
+                .is_ok()
+        );
+    }
+    for tag in 2..257u32 {
+        assert!(rt; book.strike(258 - tag).is_ok());
+    }
+    assert!(rt; book.strike(2).is_err());
+}
