@@ -1,6 +1,6 @@
 // Sums and comparisons in any kind, from the laws alone.
 ghost use Rattle.std.specs.Prelude.{◌≡◌, ◌≤◌, true, length, if◌then◌else◌};
-ghost use Rattle.std.specs.List.{AllByRecursion as All};
+ghost use Rattle.std.specs.List.{AllByRecursion};
 ghost use Rattle.lengths.specs.Figures.{AtMost, Sum, added, total, most_entries};
 
 use crate::interface::Length;
@@ -9,8 +9,8 @@ use crate::interface::Length;
 /// the last one backwards they come to the same, and that is a sum of as many entries as there are.
 pub fn sum_of<L: Length>(xs: &[L]) -> L
     ensures value { result ≡ added L.figures L.figures.zero xs.now }
-    ensures backwards { All (λ x. L.figures.entry x ≡ true) xs.now → length xs.now ≤ most_entries → result ≡ total L.figures xs.now }
-    ensures entries { All (λ x. L.figures.entry x ≡ true) xs.now → Sum L.figures (length xs.now) result }
+    ensures backwards { AllByRecursion (λ x. L.figures.entry x ≡ true) xs.now → length xs.now ≤ most_entries → result ≡ total L.figures xs.now }
+    ensures entries { AllByRecursion (λ x. L.figures.entry x ≡ true) xs.now → Sum L.figures (length xs.now) result }
 {
     let mut all = L::zero();
     for x in xs {
