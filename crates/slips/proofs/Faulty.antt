@@ -1,6 +1,6 @@
 -- From what the code found to the fault that the rules name.
-use Rattle.std.proofs.Common.{◌≡◌, ℕ, zero, suc, ◌+◌, ◌^◌, ◌<◌, ◌≤◌, List, [], ◌∷◌, ◌++◌, map, length, get_or, take, decimal, sym, refl, ap, ◌∙◌, inl, inr, arith}
-use Rattle.std.specs.List.{AllByRecursion as All}
+use Rattle.std.proofs.Common.{◌≡◌, ℕ, zero, suc, ◌+◌, ◌<◌, ◌≤◌, List, [], ◌∷◌, map, length, get_or, take, decimal, sym, refl, ap, ◌∙◌, arith}
+use Rattle.std.specs.List.{AllByRecursion}
 use Rattle.std.proofs.lemmas.List.{length-append, length-map, get_or-map}
 use Rattle.std.proofs.ByRecursion.{All-get_or}
 use Rattle.std.proofs.lemmas.Fmt.{decimal_injective}
@@ -12,7 +12,7 @@ use Rattle.slips.specs.declared.fields.Parts.{Parts}
 use Rattle.slips.specs.Causes.{row_fault}
 use Rattle.slips.specs.Format.{most, letter_byte, commaed}
 use Rattle.slips.specs.Layout.{Text, text, laid}
-use Rattle.slips.specs.Rules.{IsNumber, SixFields, FirstNonzero, field_fault, NumberFault, badly_written, not_zero}
+use Rattle.slips.specs.Rules.{IsNumber, SixFields, FirstNonzero, NumberFault, badly_written, not_zero}
 use Rattle.slips.specs.Inner.{parts_seen, place_at}
 use Rattle.slips.proofs.Layouts.{commaed_front}
 
@@ -31,7 +31,7 @@ place_is p (suc (suc (suc (suc zero)))) h = refl
 place_is p (suc (suc (suc (suc (suc k))))) h = absurd (omega arith)
 
 -- numbers in decimal are well written
-pub numbers_all : (ns : List ℕ) → All (λ n. n ≤ most) ns → All IsNumber (map decimal ns)
+pub numbers_all : (ns : List ℕ) → AllByRecursion (λ n. n ≤ most) ns → AllByRecursion IsNumber (map decimal ns)
 numbers_all [] h = tt
 numbers_all (n ∷ ns) h = ((n, (h.0, refl)), numbers_all ns h.1)
 
@@ -44,7 +44,7 @@ module _ (l : Letter) (fs : List (List ℕ)) (ts : List Text) (places : ts ≡ l
       (e ∙ ap (row_fault BadNumber (2 + k)) (ap (λ (us : List Text). (get_or us k (text [] 0)).place) places ∙ laid_place 2 fs k (text [] 0) (omega arith)))
 
   -- the field k of a strike is not 0
-  pub strike_at : {f : RowFault} (ns : List ℕ) (k : ℕ) → l ≡ Strike → fs ≡ map decimal ns → All (λ n. n ≤ most) ns → FirstNonzero ns k
+  pub strike_at : {f : RowFault} (ns : List ℕ) (k : ℕ) → l ≡ Strike → fs ≡ map decimal ns → AllByRecursion (λ n. n ≤ most) ns → FirstNonzero ns k
       → f ≡ row_fault NotZero (k + 2) (get_or ts k (text [] 0)).place → NumberFault l fs f
   strike_at ns k s fields small first e =
       let len : length fs ≡ length ns = ap length fields ∙ length-map ns decimal in

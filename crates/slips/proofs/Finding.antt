@@ -1,6 +1,6 @@
 -- A row as it is handed out: its fields where the slip has them.
 use Rattle.std.proofs.Common.{◌≡◌, ℕ, ◌+◌, List, [], ◌∷◌, ◌++◌, map, length, take, drop, Ok, Err, decimal, Result, sym, refl, ap, ◌∙◌, subst, arith}
-use Rattle.std.specs.List.{AllByRecursion as All}
+use Rattle.std.specs.List.{AllByRecursion}
 use Rattle.std.proofs.lemmas.List.Prefix.{front_rest}
 use Rattle.std.proofs.lemmas.List.{append_assoc, take_at, drop_at, drop-drop}
 use Rattle.slips.specs.declared.faults.Cause.{Cause}
@@ -8,7 +8,7 @@ use Rattle.slips.specs.declared.faults.RowFault.{RowFault}
 use Rattle.slips.specs.declared.rows.Values.{Values}
 use Rattle.slips.specs.Format.{letter_byte, numbers, Proper, commaed, row_text, row_line, names_line}
 use Rattle.slips.specs.Layout.{Text, text, Part, laid}
-use Rattle.slips.specs.Seen.{Found, found, Answer, a_row, Handed, HandsOut, RowsAnswer, ends, faulty, row, Answers, too_long, no_names, first, later}
+use Rattle.slips.specs.Seen.{found, Answer, Handed, HandsOut, RowsAnswer, ends, faulty, row, Answers, too_long, no_names, first, later}
 use Rattle.slips.specs.Causes.{row_fault}
 use Rattle.slips.specs.Inner.{in_field, shifted, on_line}
 use Rattle.slips.proofs.Layouts.{laid_moved}
@@ -34,7 +34,7 @@ in_field_err (Ok x) f k i e = let z : ◌≡◌ {A = ℕ} 0 1 = cc in absurd (om
 in_field_err (Err c) f k i e = let h : f ≡ row_fault c k i = cc in (c, refl, h)
 
 -- fields that are laid where the slip has their texts are parts of it
-laid_parts : (slip : List ℕ) (i : ℕ) (f : List ℕ) (fs : List (List ℕ)) (rest : List ℕ) → drop i slip ≡ f ++ (commaed fs ++ rest) → All (Part slip) (laid i (f ∷ fs))
+laid_parts : (slip : List ℕ) (i : ℕ) (f : List ℕ) (fs : List (List ℕ)) (rest : List ℕ) → drop i slip ≡ f ++ (commaed fs ++ rest) → AllByRecursion (Part slip) (laid i (f ∷ fs))
 laid_parts slip i f [] rest e = (ap (take (length f)) e ∙ take_at f rest (length f) refl, tt)
 laid_parts slip i f (g ∷ gs) rest e =
     let tail : (commaed (g ∷ gs)) ++ rest ≡ 44 ∷ (g ++ (commaed gs ++ rest)) = ap (λ (t : List ℕ). 44 ∷ t) (append_assoc g (commaed gs) rest) in

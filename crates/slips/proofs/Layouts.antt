@@ -1,6 +1,6 @@
 -- Fields one after another: their texts with commas, and their places.
-use Rattle.std.proofs.Common.{◌≡◌, ℕ, zero, suc, ◌+◌, ◌<◌, ◌≤◌, List, [], ◌∷◌, ◌++◌, map, length, get_or, take, sym, refl, ap, ◌∙◌, arith}
-use Rattle.std.specs.List.{AllByRecursion as All}
+use Rattle.std.proofs.Common.{◌≡◌, ℕ, zero, suc, ◌+◌, ◌<◌, ◌≤◌, List, [], ◌∷◌, ◌++◌, map, length, take, sym, refl, ap, ◌∙◌, arith}
+use Rattle.std.specs.List.{AllByRecursion}
 use Rattle.std.proofs.lemmas.List.{append-nil, length-append}
 use Rattle.slips.specs.Format.{commaed}
 use Rattle.slips.specs.Layout.{Text, text, laid}
@@ -17,7 +17,7 @@ pub laid_next : {i p : ℕ} {f : List ℕ} {ts us : List Text} → p ≡ i → t
 laid_next {i} {p} {f} {ts} {us} e h = ap (λ (k : ℕ). text f k ∷ ts) e ∙ ap (λ (vs : List Text). text f i ∷ vs) h
 
 -- fields in a line of n bytes begin within it
-pub laid_within : (i n : ℕ) (fs : List (List ℕ)) → i + length (commaed fs) ≤ n + 1 → All (λ t. t.place ≤ n) (laid i fs)
+pub laid_within : (i n : ℕ) (fs : List (List ℕ)) → i + length (commaed fs) ≤ n + 1 → AllByRecursion (λ t. t.place ≤ n) (laid i fs)
 laid_within i n [] h = tt
 laid_within i n (f ∷ fs) h =
     let e : length (commaed (f ∷ fs)) ≡ 1 + length f + length (commaed fs) = simp length-append (omega arith) in

@@ -1,6 +1,6 @@
 -- How reading a whole slip goes on, row by row.
-use Rattle.std.proofs.Common.{◌≡◌, ℕ, ◌+◌, ◌-◌, ◌<◌, ◌≤◌, ◌⊎◌, List, [], ◌∷◌, ◌++◌, map, length, drop, Some, None, Option, sym, refl, ap, ◌∙◌, subst, inl, inr, arith}
-use Rattle.std.specs.List.{flat_map, AllByRecursion as All}
+use Rattle.std.proofs.Common.{◌≡◌, ℕ, ◌+◌, ◌<◌, ◌≤◌, List, [], ◌∷◌, ◌++◌, length, drop, Some, None, sym, refl, ap, ◌∙◌, subst, arith}
+use Rattle.std.specs.List.{flat_map, AllByRecursion}
 use Rattle.std.proofs.ByRecursion.{All-push}
 use Rattle.std.proofs.lemmas.List.Prefix.{front_rest}
 use Rattle.std.proofs.lemmas.List.{append_assoc, append-nil, length-append, length_push, flat_map_more}
@@ -16,7 +16,7 @@ use Rattle.slips.specs.Seen.{Found, found, found_from, Answer, a_row, a_fault, t
 -- an answer there: a fault of the whole slip or its names, or what the rows left answer
 data Onward (slip : List ℕ) (vs : List Values) (a : Answer) : Type 0 where
   stopped : (f : Fault) → a ≡ a_fault f → Holds slip vs (Some f) → Onward slip vs a
-  onward : (rest : List ℕ) → length slip ≤ most_bytes → All Proper vs → slip ≡ slip_text vs ++ rest → RowsAnswer rest (length (slip_text vs)) (2 + length vs) a → Onward slip vs a
+  onward : (rest : List ℕ) → length slip ≤ most_bytes → AllByRecursion Proper vs → slip ≡ slip_text vs ++ rest → RowsAnswer rest (length (slip_text vs)) (2 + length vs) a → Onward slip vs a
 
 no_rows : slip_text [] ≡ names_line
 no_rows = append-nil names_line

@@ -1,7 +1,7 @@
 -- Bytes put at the front of a buffer: the digits of a number, a field, fields one after another, a line.
-use Rattle.std.proofs.Common.{◌≡◌, ℕ, ◌+◌, ◌-◌, ◌*◌, ◌/◌, ◌%◌, ◌^◌, ◌<◌, ◌≤◌, List, [], ◌∷◌, ◌++◌, map, length, get_or, take, drop, set, decimal, sym, refl, ap, ◌∙◌, subst, append_assoc, arith, length-append, rules}
+use Rattle.std.proofs.Common.{◌≡◌, ℕ, ◌+◌, ◌-◌, ◌/◌, ◌%◌, ◌^◌, ◌<◌, ◌≤◌, List, [], ◌∷◌, ◌++◌, map, length, get_or, take, drop, set, decimal, sym, refl, ap, ◌∙◌, subst, append_assoc, arith, length-append}
 use borrow.Rule.Slice.PartMut.{put_mid}
-use Rattle.std.specs.List.{between, AllByRecursion as All}
+use Rattle.std.specs.List.{between, AllByRecursion}
 use Rattle.std.proofs.lemmas.Slice.{first_rest}
 use Rattle.slips.specs.declared.rows.Letter.{Letter}
 use Rattle.slips.specs.declared.rows.Letter.TheVariants.{Strike}
@@ -9,7 +9,7 @@ use Rattle.slips.specs.declared.rows.Values.{Values}
 use Rattle.slips.specs.Format.{most, letter_byte, numbers, Proper, commaed, row_line}
 use Rattle.slips.specs.Writing.{RowOf}
 use Rattle.std.proofs.lemmas.List.{set_at, drop_more, length_push, nil_from_length, take_at, drop_at, drop-drop, drop_all, append-nil, length-drop, take_rest}
-use Rattle.std.proofs.lemmas.Fmt.{decimal_digit, decimal_step, decimal_nonempty}
+use Rattle.std.proofs.lemmas.Fmt.{decimal_digit, decimal_step}
 
 -- numbers in decimal, with a comma before each
 abbrev pub fields_text : List ℕ → List ℕ
@@ -114,10 +114,10 @@ module _ (l : Letter) (ns : List ℕ) (five : length ns ≡ 5) where
   unfolding values_of
   row_given c e = record { letter = e; five = five_numbers l ns five }
 
-  pub row_proper : All (λ n. n ≤ most) ns → (l ≡ Strike → All (λ n. n ≡ 0) (drop 1 ns)) → Proper (values_of l ns)
+  pub row_proper : AllByRecursion (λ n. n ≤ most) ns → (l ≡ Strike → AllByRecursion (λ n. n ≡ 0) (drop 1 ns)) → Proper (values_of l ns)
   unfolding values_of
   row_proper small zero =
-      let P : List ℕ → Type 0 = λ ms. All (λ n. n ≤ most) ms × (l ≡ Strike → All (λ n. n ≡ 0) (drop 1 ms)) in
+      let P : List ℕ → Type 0 = λ ms. AllByRecursion (λ n. n ≤ most) ms × (l ≡ Strike → AllByRecursion (λ n. n ≡ 0) (drop 1 ms)) in
       subst P (five_numbers l ns five) (small, zero)
 
   pub row_bytes : row_line (values_of l ns) ≡ (letter_byte l ∷ fields_text ns) ++ 10 ∷ []

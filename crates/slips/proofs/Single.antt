@@ -1,9 +1,9 @@
 -- The rules allow one answer, and no other: first for a line, then for what is left of a slip.
-use Rattle.std.proofs.Common.{◌≡◌, ℕ, zero, suc, ◌+◌, ◌^◌, ◌<◌, ◌≤◌, List, [], ◌∷◌, ◌++◌, map, length, get_or, drop, decimal, sym, refl, ap, ◌∙◌, subst, inl, inr, arith}
-use Rattle.std.specs.List.{AllByRecursion as All}
-use Rattle.std.proofs.lemmas.Fmt.{digits_decimal, decimal_injective}
+use Rattle.std.proofs.Common.{◌≡◌, ℕ, zero, suc, ◌<◌, ◌≤◌, List, [], ◌∷◌, ◌++◌, map, length, get_or, drop, decimal, sym, refl, ap, ◌∙◌, subst, inl, inr, arith}
+use Rattle.std.specs.List.{AllByRecursion}
+use Rattle.std.proofs.lemmas.Fmt.{digits_decimal}
 use Rattle.std.proofs.ByRecursion.{All-get_or, All-from_get_or, All-append}
-use Rattle.std.proofs.lemmas.List.{append_assoc, get_or-map, length-map, get_or-drop}
+use Rattle.std.proofs.lemmas.List.{get_or-map}
 use Rattle.std.proofs.lemmas.Str.Parse.{not_in_digits}
 use Rattle.std.proofs.lemmas.Bool.{cases_eq, cases_order}
 use Rattle.slips.specs.declared.faults.Cause.TheVariants.{BadNumber, NotZero}
@@ -11,7 +11,7 @@ use Rattle.slips.specs.declared.faults.RowFault.{RowFault}
 use Rattle.slips.specs.declared.rows.Letter.{Letter}
 use Rattle.slips.specs.declared.rows.Letter.TheVariants.{Growth, Strike}
 use Rattle.slips.specs.declared.rows.Values.{Values}
-use Rattle.slips.specs.Format.{most, letter_byte, numbers, Proper, commaed, row_text, row_line}
+use Rattle.slips.specs.Format.{most, letter_byte, numbers, Proper, commaed, row_text}
 use Rattle.slips.specs.Inner.{count}
 use Rattle.slips.specs.Rules.{Free, IsNumber, SixFields, field_fault, NumberFault, badly_written, not_zero, LineFault, not_six_fields, bad_letter, at_number}
 use Rattle.slips.proofs.Decimal.{own}
@@ -60,7 +60,7 @@ field_once (x ∷ f) [] fs (g ∷ gs) h k e = absurd (h.0 (heads e))
 field_once (x ∷ f) (y ∷ g) fs gs h k e =
     let t = field_once f g fs gs h.1 k.1 (tails e) in (cons (heads e) t.0, t.1)
 
-commaed_once : (fs gs : List (List ℕ)) → All (Free 44) fs → All (Free 44) gs → commaed fs ≡ commaed gs → fs ≡ gs
+commaed_once : (fs gs : List (List ℕ)) → AllByRecursion (Free 44) fs → AllByRecursion (Free 44) gs → commaed fs ≡ commaed gs → fs ≡ gs
 commaed_once [] [] h k e = refl
 commaed_once [] (g ∷ gs) h k e = absurd (nil_cons e)
 commaed_once (f ∷ fs) [] h k e = absurd (nil_cons (sym e))
@@ -84,7 +84,7 @@ six_once {line} {e} {g} {fs} {gs} h k =
     (t.0, commaed_once fs gs h.free k.free t.1)
 
 -- and it has five commas then
-commaed_count : (fs : List (List ℕ)) → All (Free 44) fs → count 44 (commaed fs) ≡ length fs
+commaed_count : (fs : List (List ℕ)) → AllByRecursion (Free 44) fs → count 44 (commaed fs) ≡ length fs
 commaed_count [] h = refl
 commaed_count (f ∷ fs) h =
     omega (arith, count_here 44 44 (f ++ commaed fs) refl, count_append 44 f (commaed fs), count_free 44 f h.0, commaed_count fs h.1)
@@ -99,7 +99,7 @@ record Parting (line : List ℕ) : Type 0 where
   others : List (List ℕ)
   text : line ≡ first ++ commaed others
   first_free : Free 44 first
-  free : All (Free 44) others
+  free : AllByRecursion (Free 44) others
   many : length others ≡ count 44 line
 
 parting : (line : List ℕ) → Parting line
@@ -176,11 +176,11 @@ decimal_free m n low h =
     let P : ℕ → Type 0 = λ c. c ≡ m → ⊥ in
     All-from_get_or P (decimal n) 0 (λ i in' e. not_in_digits own (decimal n) m (digits_decimal own n (omega arith)) (λ d. omega (arith, d)) i in' e)
 
-decimals_free : (m : ℕ) (ns : List ℕ) → m < 48 → All (λ n. n ≤ most) ns → All (Free m) (map decimal ns)
+decimals_free : (m : ℕ) (ns : List ℕ) → m < 48 → AllByRecursion (λ n. n ≤ most) ns → AllByRecursion (Free m) (map decimal ns)
 decimals_free m [] low h = tt
 decimals_free m (n ∷ ns) low h = (decimal_free m n low h.0, decimals_free m ns low h.1)
 
-commaed_free : (m : ℕ) (fs : List (List ℕ)) → (44 ≡ m → ⊥) → All (Free m) fs → Free m (commaed fs)
+commaed_free : (m : ℕ) (fs : List (List ℕ)) → (44 ≡ m → ⊥) → AllByRecursion (Free m) fs → Free m (commaed fs)
 commaed_free m [] n h = tt
 commaed_free m (f ∷ fs) n h = (n, All-append (λ c. c ≡ m → ⊥) f (commaed fs) h.0 (commaed_free m fs n h.1))
 
@@ -191,7 +191,7 @@ pub text_fields : (v : Values) → Proper v → SixFields (row_text v) (letter_b
 text_fields v h = record { text = refl; five = refl; first_free = (letter_apart v.letter 44 (omega arith), tt); free = decimals_free 44 (numbers v) (omega arith) h.0 }
 
 -- a number after the tag, where all of them are 0
-pub zero_at : (ns : List ℕ) (k : ℕ) → 1 ≤ k → k < length ns → All (λ n. n ≡ 0) (drop 1 ns) → get_or ns k 0 ≡ 0
+pub zero_at : (ns : List ℕ) (k : ℕ) → 1 ≤ k → k < length ns → AllByRecursion (λ n. n ≡ 0) (drop 1 ns) → get_or ns k 0 ≡ 0
 zero_at [] k some low all = refl
 zero_at (n ∷ ns) zero some low all = absurd (omega arith)
 zero_at (n ∷ ns) (suc k) some low all = All-get_or (λ n. n ≡ 0) ns k 0 (omega arith) all

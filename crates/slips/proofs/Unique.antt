@@ -1,6 +1,6 @@
 -- The rules allow one answer, and no other: at each place of a slip, and for a whole slip.
-use Rattle.std.proofs.Common.{◌≡◌, ℕ, ◌+◌, ◌<◌, ◌≤◌, List, [], ◌∷◌, ◌++◌, map, length, get_or, drop, Some, None, decimal, Option, sym, refl, ap, ◌∙◌, subst, arith}
-use Rattle.std.specs.List.{flat_map, AllByRecursion as All}
+use Rattle.std.proofs.Common.{◌≡◌, ℕ, ◌+◌, ◌≤◌, List, [], ◌∷◌, ◌++◌, map, length, drop, Some, decimal, Option, sym, refl, ap, ◌∙◌, subst, arith}
+use Rattle.std.specs.List.{flat_map, AllByRecursion}
 use Rattle.std.proofs.lemmas.Fmt.{decimal_injective}
 use Rattle.std.proofs.lemmas.List.{append_assoc, append_cancel_left, append-nil}
 use Rattle.slips.specs.declared.faults.Cause.{Cause}
@@ -20,7 +20,7 @@ use Rattle.slips.proofs.Single.{nil_append, cut_once, no_cut, six_once, letters_
 
 -- rows
 
-numbers_once : (ns ms : List ℕ) → All (λ n. n ≤ most) ns → All (λ n. n ≤ most) ms → map decimal ns ≡ map decimal ms → ns ≡ ms
+numbers_once : (ns ms : List ℕ) → AllByRecursion (λ n. n ≤ most) ns → AllByRecursion (λ n. n ≤ most) ms → map decimal ns ≡ map decimal ms → ns ≡ ms
 numbers_once [] [] h k e = refl
 numbers_once [] (m ∷ ms) h k e = let z : ◌≡◌ {A = ℕ} 0 1 = cc in absurd (omega arith)
 numbers_once (n ∷ ns) [] h k e = let z : ◌≡◌ {A = ℕ} 0 1 = cc in absurd (omega arith)
@@ -137,7 +137,7 @@ answers_once slip b l x y (seen.later h o k) (seen.later h' o' k') = rows_once (
 abbrev Stuck : List ℕ → Type 0
 Stuck rest = (v : Values) (a : List ℕ) → Proper v → rest ≡ row_line v ++ a → ⊥
 
-rows_apart : (vs ws : List Values) (r s : List ℕ) → All Proper vs → All Proper ws → Stuck r → Stuck s
+rows_apart : (vs ws : List Values) (r s : List ℕ) → AllByRecursion Proper vs → AllByRecursion Proper ws → Stuck r → Stuck s
     → flat_map row_line vs ++ r ≡ flat_map row_line ws ++ s → (vs ≡ ws) × (r ≡ s)
 rows_apart [] [] r s h k p q e = (refl, e)
 rows_apart [] (w ∷ ws) r s h k p q e = absurd (p w (flat_map row_line ws ++ s) k.0 (e ∙ append_assoc (row_line w) (flat_map row_line ws) s))
@@ -148,7 +148,7 @@ rows_apart (v ∷ vs) (w ∷ ws) r s h k p q e =
     let u = rows_apart vs ws r s h.1 k.1 p q t.1 in
     (ap (λ (x : Values). x ∷ vs) t.0 ∙ ap (λ (xs : List Values). w ∷ xs) u.0, u.1)
 
-slips_apart : (vs ws : List Values) (r s : List ℕ) → All Proper vs → All Proper ws → Stuck r → Stuck s
+slips_apart : (vs ws : List Values) (r s : List ℕ) → AllByRecursion Proper vs → AllByRecursion Proper ws → Stuck r → Stuck s
     → slip_text vs ++ r ≡ slip_text ws ++ s → (vs ≡ ws) × (r ≡ s)
 slips_apart vs ws r s h k p q e =
     rows_apart vs ws r s h k p q

@@ -1,6 +1,6 @@
 -- The format of a slip: which bytes are the writing of a row, and which are the writing of a slip.
 use Rattle.std.specs.Prelude.{◌≡◌, ℕ, ◌≤◌, List, [], ◌∷◌, ◌++◌, map, drop, codes, decimal}
-use Rattle.std.specs.List.{flat_map, AllByRecursion as All}
+use Rattle.std.specs.List.{flat_map, AllByRecursion}
 use Rattle.slips.specs.declared.rows.Letter.{Letter}
 use Rattle.slips.specs.declared.rows.Letter.TheVariants.{Growth, Strike}
 use Rattle.slips.specs.declared.rows.Values.{Values}
@@ -24,7 +24,7 @@ numbers v = v.tag ∷ (v.parent ∷ (v.couplings ∷ (v.run ∷ (v.drop ∷ []))
 
 -- a row that a slip may hold: no number above the greatest, and in a strike no number after the tag but 0
 abbrev pub Proper : Values → Type 0
-Proper v = All (λ n. n ≤ most) (numbers v) × (v.letter ≡ Strike → All (λ n. n ≡ 0) (drop 1 (numbers v)))
+Proper v = AllByRecursion (λ n. n ≤ most) (numbers v) × (v.letter ≡ Strike → AllByRecursion (λ n. n ≡ 0) (drop 1 (numbers v)))
 
 -- fields, each with a comma before it
 abbrev pub commaed : List (List ℕ) → List ℕ

@@ -1,6 +1,6 @@
 -- Which fault a line has, and which a slip has: the first cause in the order of the checks.
 use Rattle.std.specs.Prelude.{◌≡◌, ℕ, ◌+◌, ◌<◌, ◌≤◌, List, [], ◌∷◌, ◌++◌, length, get_or, take, drop, Some, None, decimal, Option, ◌≢◌, slice_index, slice_index_or}
-use Rattle.std.specs.List.{AllByRecursion as All}
+use Rattle.std.specs.List.{AllByRecursion}
 use Rattle.slips.specs.declared.faults.Cause.{Cause}
 use Rattle.slips.specs.declared.faults.Cause.TheVariants.{TooLong, NotNames, NotSixFields, BadLetter, BadNumber, NotZero, Unended}
 use Rattle.slips.specs.declared.faults.RowFault.{RowFault}
@@ -9,11 +9,11 @@ use Rattle.slips.specs.declared.rows.Letter.{Letter}
 use Rattle.slips.specs.declared.rows.Letter.TheVariants.{Strike}
 use Rattle.slips.specs.declared.rows.Values.{Values}
 use Rattle.slips.specs.Causes.{row_fault, slip_fault, placed}
-use Rattle.slips.specs.Format.{most, most_bytes, letter_byte, Proper, commaed, row_line, names, names_line, slip_text}
+use Rattle.slips.specs.Format.{most, most_bytes, letter_byte, Proper, commaed, names, slip_text}
 
 -- the byte b does not stand in bs
 abbrev pub Free : ℕ → List ℕ → Type 0
-Free b bs = All (λ c. c ≢ b) bs
+Free b bs = AllByRecursion (λ c. c ≢ b) bs
 
 -- the field f is the writing of the number n
 abbrev pub Number : List ℕ → ℕ → Type 0
@@ -35,7 +35,7 @@ pub record SixFields (line f : List ℕ) (fs : List (List ℕ)) : Type 0 where
   pub text : line ≡ f ++ commaed fs
   pub five : length fs ≡ 5
   pub first_free : Free 44 f
-  pub free : All (Free 44) fs
+  pub free : AllByRecursion (Free 44) fs
 
 -- a fault in the field fs k, the field k + 2 of its line
 abbrev pub field_fault : Cause → List (List ℕ) → ℕ → RowFault
@@ -47,7 +47,7 @@ pub data NumberFault (l : Letter) (fs : List (List ℕ)) (f : RowFault) : Type 0
   badly_written : (k : ℕ) → k < 5 → ((j : ℕ) → j < k → IsNumber (slice_index_or fs j [])) → (IsNumber (slice_index_or fs k []) → ⊥)
       → f ≡ field_fault BadNumber fs k → NumberFault l fs f
   -- a strike has all numbers well written, one after the tag that is not 0, and 0 before that
-  not_zero : (k : ℕ) → 1 ≤ k → k < 5 → l ≡ Strike → All IsNumber fs → ((j : ℕ) → 1 ≤ j → j < k → slice_index_or fs j [] ≡ decimal 0)
+  not_zero : (k : ℕ) → 1 ≤ k → k < 5 → l ≡ Strike → AllByRecursion IsNumber fs → ((j : ℕ) → 1 ≤ j → j < k → slice_index_or fs j [] ≡ decimal 0)
       → (slice_index_or fs k [] ≢ decimal 0) → f ≡ field_fault NotZero fs k → NumberFault l fs f
 
 -- `LineFault line f`: f is the first fault of the line as a row
@@ -73,13 +73,13 @@ pub data RowsFault (rest : List ℕ) (b l : ℕ) (f : Fault) : Type 0 where
 -- the start nothing has been read, not even the names
 pub data Read (slip : List ℕ) (vs : List Values) (b l : ℕ) : Type 0 where
   nothing : vs ≡ [] → b ≡ 0 → l ≡ 1 → Read slip vs b l
-  up_to : length slip ≤ most_bytes → All Proper vs → slip ≡ slip_text vs ++ drop b slip → b ≡ length (slip_text vs) → l ≡ 2 + length vs
+  up_to : length slip ≤ most_bytes → AllByRecursion Proper vs → slip ≡ slip_text vs ++ drop b slip → b ≡ length (slip_text vs) → l ≡ 2 + length vs
       → Read slip vs b l
 
 -- `Holds slip vs o`: the slip holds the rows vs, and then ends, or has its first fault
 pub data Holds (slip : List ℕ) (vs : List Values) (o : Option Fault) : Type 0 where
-  whole : length slip ≤ most_bytes → All Proper vs → slip ≡ slip_text vs → o ≡ None → Holds slip vs o
+  whole : length slip ≤ most_bytes → AllByRecursion Proper vs → slip ≡ slip_text vs → o ≡ None → Holds slip vs o
   too_long : most_bytes < length slip → vs ≡ [] → o ≡ Some (slip_fault TooLong 0 0 0) → Holds slip vs o
   no_names : (c : Cause) → length slip ≤ most_bytes → NamesFault slip c → vs ≡ [] → o ≡ Some (slip_fault c 1 0 0) → Holds slip vs o
-  at_row : (rest : List ℕ) (f : Fault) → length slip ≤ most_bytes → All Proper vs → slip ≡ slip_text vs ++ rest
+  at_row : (rest : List ℕ) (f : Fault) → length slip ≤ most_bytes → AllByRecursion Proper vs → slip ≡ slip_text vs ++ rest
       → RowsFault rest (length (slip_text vs)) (2 + length vs) f → o ≡ Some f → Holds slip vs o

@@ -1,6 +1,6 @@
 -- What a reader hands out, as its bytes and places say it, and what reading answers.
 use Rattle.std.specs.Prelude.{◌≡◌, ℕ, ◌+◌, ◌<◌, ◌≤◌, List, [], ◌∷◌, ◌++◌, map, length, take, drop, Some, None, decimal, ◌≢◌}
-use Rattle.std.specs.List.{AllByRecursion as All}
+use Rattle.std.specs.List.{AllByRecursion}
 use Rattle.slips.specs.declared.faults.Cause.{Cause}
 use Rattle.slips.specs.declared.faults.Cause.TheVariants.{TooLong}
 use Rattle.slips.specs.declared.faults.Fault.{Fault}
@@ -57,7 +57,7 @@ seen reading.End = the_end
 pub record Handed (slip : List ℕ) (r : Found) : Type 0 where
   pub proper : Proper r.values
   pub written : take (length (row_line r.values)) (drop r.byte slip) ≡ row_line r.values
-  pub parts : All (Part slip) r.fields
+  pub parts : AllByRecursion (Part slip) r.fields
 
 abbrev pub HandsOut : List ℕ → Answer → Type 0
 HandsOut slip (a_row r) = Handed slip r

@@ -1,6 +1,6 @@
 -- Writing a row: when it is refused, what is written, and that it is read back.
 use Rattle.std.specs.Prelude.{◌≡◌, ℕ, ◌+◌, ◌<◌, ◌≤◌, List, [], ◌∷◌, ◌++◌, length, take, drop, None, Ok, Err, Result, ◌≢◌, slice_index}
-use Rattle.std.specs.List.{AllByRecursion as All}
+use Rattle.std.specs.List.{AllByRecursion}
 use Rattle.slips.specs.declared.faults.Cause.TheVariants.{BadLetter, BadNumber, NotZero}
 use Rattle.slips.specs.declared.faults.WriteFault.{WriteFault}
 use Rattle.slips.specs.declared.faults.WriteFault.TheVariants.{InField, ShortBuffer}
@@ -21,7 +21,7 @@ pub data BadRow (c : ℕ) (ns : List ℕ) (f : WriteFault) : Type 0 where
   bad_letter : ((l : Letter) → c ≢ letter_byte l) → f ≡ InField BadLetter 1 → BadRow c ns f
   too_large : (l : Letter) → c ≡ letter_byte l → (k : ℕ) → k < length ns → ((j : ℕ) → j < k → slice_index ns j ≤ most) → most < slice_index ns k
       → f ≡ InField BadNumber (k + 2) → BadRow c ns f
-  not_zero : c ≡ letter_byte Strike → All (λ n. n ≤ most) ns → (k : ℕ) → FirstNonzero ns k → f ≡ InField NotZero (k + 2) → BadRow c ns f
+  not_zero : c ≡ letter_byte Strike → AllByRecursion (λ n. n ≤ most) ns → (k : ℕ) → FirstNonzero ns k → f ≡ InField NotZero (k + 2) → BadRow c ns f
 
 -- `Unwritten c ns room f`: over a buffer of so many bytes the row is refused by f
 pub data Unwritten (c : ℕ) (ns : List ℕ) (room : ℕ) (f : WriteFault) : Type 0 where
@@ -39,7 +39,7 @@ pub record Written (c : ℕ) (ns before after : List ℕ) (n : ℕ) : Type 0 whe
 
 -- put after any rows of a slip, these bytes are one row more, that of the letter c and the numbers ns
 abbrev pub ReadBack : ℕ → List ℕ → List ℕ → Type 0
-ReadBack c ns bytes = (vs : List Values) → All Proper vs → length (slip_text vs ++ bytes) ≤ most_bytes
+ReadBack c ns bytes = (vs : List Values) → AllByRecursion Proper vs → length (slip_text vs ++ bytes) ≤ most_bytes
     → (v : Values) × RowOf c ns v × Holds (slip_text vs ++ bytes) (vs ++ v ∷ []) None
 
 -- the bytes of a row that was handed out of a slip stand there again: as many of them as the line has are written

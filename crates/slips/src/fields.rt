@@ -1,6 +1,6 @@
 // One row: its letter, its fields and its values.
 ghost use Rattle.std.specs.Prelude.{◌≡◌, ℕ, ◌+◌, ◌^◌, ◌<◌, ◌≤◌, List, ◌∷◌, ◌++◌, map, length, drop, decimal, MatchOption, MatchResult, ◌≢◌};
-ghost use Rattle.std.specs.List.{AllByRecursion as All};
+ghost use Rattle.std.specs.List.{AllByRecursion};
 ghost use Rattle.slips.specs.declared.faults.Cause.TheVariants.{BadLetter, BadNumber};
 ghost use Rattle.slips.specs.declared.faults.RowFault.{RowFault as ARowFault};
 ghost use Rattle.slips.specs.declared.rows.Letter.{Letter as ALetter};
@@ -66,7 +66,7 @@ fn split(rest: &[u8]) -> Parts<'_>
     requires commas { count 44 rest.now ≡ 4 }
     requires fits { 2 + length rest.now < 2 ^ 64 }
     ensures text { 44 ∷ rest.now ≡ commaed (bytes_of result) }
-    ensures free { All (Free 44) (bytes_of result) }
+    ensures free { AllByRecursion (Free 44) (bytes_of result) }
     ensures places { parts_seen result ≡ laid 2 (bytes_of result) }
 {
     let rest = Field {
@@ -95,7 +95,7 @@ fn number_in(field: Field<'_>, n: usize) -> Result<u32, RowFault>
 
 /// The first of `numbers` after the tag that is not 0, by its index.
 pub(crate) fn nonzero_after_tag(numbers: &[u32]) -> Option<usize>
-    ensures { MatchOption result (All (λ n. n ≡ 0) (drop 1 numbers.now)) (λ k. FirstNonzero numbers.now k) }
+    ensures { MatchOption result (AllByRecursion (λ n. n ≡ 0) (drop 1 numbers.now)) (λ k. FirstNonzero numbers.now k) }
 {
     for k in 1..numbers.len() {
         if numbers[k] != 0 {
@@ -124,7 +124,7 @@ impl Parts<'_> {
 fn check_strike(parts: &Parts<'_>, values: Values) -> Result<(), RowFault>
     requires places { parts_seen parts.now ≡ laid 2 (bytes_of parts.now) }
     requires fields { bytes_of parts.now ≡ map decimal (numbers values) }
-    requires small { All (λ n. n ≤ most) (numbers values) }
+    requires small { AllByRecursion (λ n. n ≤ most) (numbers values) }
     ensures { MatchResult result (λ _. Proper values) (λ f. NumberFault values.letter (bytes_of parts.now) f) }
 {
     let Letter::Strike = values.letter else {
@@ -160,7 +160,7 @@ fn values_of(letter: Letter, parts: &Parts<'_>) -> Result<Values, RowFault>
 /// The five fields and the values of a row, from its line without the newline. Places are those in the line.
 fn read_row(line: &[u8]) -> Result<(Parts<'_>, Values), RowFault>
     ensures value { MatchResult result (λ p. Proper p.1 × (line.now ≡ row_text p.1) × (parts_seen p.0 ≡ laid 2 (map decimal (numbers p.1)))) (λ f. LineFault line.now f) }
-    ensures within { MatchResult result (λ p. All (λ t. t.place ≤ length line.now) (parts_seen p.0)) (λ f. f.at ≤ length line.now) }
+    ensures within { MatchResult result (λ p. AllByRecursion (λ t. t.place ≤ length line.now) (parts_seen p.0)) (λ f. f.at ≤ length line.now) }
 {
     let six = count_of(line, b',') == 5;
     if !six {

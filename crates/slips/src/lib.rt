@@ -2,6 +2,7 @@
 //!
 //! A slip is a names line and then a line for each row. Reading hands out each row as parts of the slip itself, or the
 //! first fault with its place. docs/slips.md has the format, docs/refusals.md the numbers.
+#![tactic(auto)]
 
 mod cursor;
 mod digits;

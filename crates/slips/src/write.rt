@@ -1,6 +1,6 @@
 // Writing a row.
 ghost use Rattle.std.specs.Prelude.{◌≡◌, ℕ, ◌+◌, ◌*◌, ◌<◌, ◌≤◌, List, ◌∷◌, ◌++◌, map, length, take, drop, IfOk, decimal, MatchOption, MatchResult, slice_index};
-ghost use Rattle.std.specs.List.{AllByRecursion as All};
+ghost use Rattle.std.specs.List.{AllByRecursion};
 ghost use Rattle.slips.specs.declared.rows.Letter.TheVariants.{Strike};
 ghost use Rattle.slips.specs.Format.{most, letter_byte, numbers, commaed};
 ghost use Rattle.slips.specs.Writing.{BadRow, Unwritten, Written, ReadBack, SameBytes};
@@ -13,7 +13,7 @@ use crate::rows::{Letter, Row, letter_from};
 
 /// The first of `numbers` above the greatest, by its index.
 fn too_large(numbers: &[u32]) -> Option<usize>
-    ensures { MatchOption result (All (λ n. n ≤ most) numbers.now) (λ k. (k < length numbers.now) × ((j : ℕ) → j < k → slice_index numbers.now j ≤ most) × (most < slice_index numbers.now k)) }
+    ensures { MatchOption result (AllByRecursion (λ n. n ≤ most) numbers.now) (λ k. (k < length numbers.now) × ((j : ℕ) → j < k → slice_index numbers.now j ≤ most) × (most < slice_index numbers.now k)) }
 {
     for (k, n) in numbers.iter().enumerate() {
         if *n > MOST {
@@ -26,7 +26,7 @@ fn too_large(numbers: &[u32]) -> Option<usize>
 /// The letter of a row that a slip may hold, or why it may not.
 fn checked(letter: char, numbers: &[u32]) -> Result<Letter, WriteFault>
     requires { length numbers.now ≡ 5 }
-    ensures { MatchResult result (λ l. (letter ≡ letter_byte l) × All (λ n. n ≤ most) numbers.now × (l ≡ Strike → All (λ n. n ≡ 0) (drop 1 numbers.now))) (λ f. BadRow letter numbers.now f) }
+    ensures { MatchResult result (λ l. (letter ≡ letter_byte l) × AllByRecursion (λ n. n ≤ most) numbers.now × (l ≡ Strike → AllByRecursion (λ n. n ≡ 0) (drop 1 numbers.now))) (λ f. BadRow letter numbers.now f) }
 {
     let letter = match letter_from(letter) {
         Ok(letter) => letter,

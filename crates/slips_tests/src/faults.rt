@@ -11,7 +11,7 @@ use std::test::Fail;
 type Case = (&'static [u8], Cause, usize, u8);
 
 /// Checks the fault of a case in two slips: after the names line alone, and after the rows of the sample.
-fn check_case(rt: &impl Abort, heap: Global, case: &Case) -> Result<(), Fail> {
+fn check_case(rt: &impl Abort, heap: Global, case: &Case, note: &str) -> Result<(), Fail> {
     let (line, cause, field, at) = *case;
     let first = [NAMES_LINE, line].concat(heap)?;
     let fault = Fault {
@@ -20,7 +20,7 @@ fn check_case(rt: &impl Abort, heap: Global, case: &Case) -> Result<(), Fail> {
         field,
         byte: NAMES_LINE.len() + usize::from(at),
     };
-    check_read(rt, heap, first.as_slice(), 0, Some(fault))?;
+    check_read(rt, heap, first.as_slice(), 0, Some(fault), note)?;
     let later = [SAMPLE, line].concat(heap)?;
     let fault = Fault {
         cause,
@@ -28,12 +28,13 @@ fn check_case(rt: &impl Abort, heap: Global, case: &Case) -> Result<(), Fail> {
         field,
         byte: SAMPLE.len() + usize::from(at),
     };
-    check_read(rt, heap, later.as_slice(), 7, Some(fault))
+    check_read(rt, heap, later.as_slice(), 7, Some(fault), note)
 }
 
 fn check_cases(rt: &impl Abort, heap: Global, cases: &[Case]) -> Result<(), Fail> {
     for (i, case) in cases.iter().enumerate() {
-        check_case(rt, heap, case).note(format_args!("in case {i}"))?;
+        let note = format!(in heap; "in case {i}")?;
+        check_case(rt, heap, case, note.as_str())?;
     }
     Ok(())
 }

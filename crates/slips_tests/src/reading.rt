@@ -5,17 +5,18 @@ use std::alloc::{AllocError, Global};
 use std::process::Abort;
 use std::test::Fail;
 
-/// Checks how many rows a slip has before its end or its first fault, and that fault.
+/// Checks how many rows a slip has before its end or its first fault, and that fault; the note says where it failed.
 pub(crate) fn check_read(
     rt: &impl Abort,
     heap: Global,
     slip: &[u8],
     rows: usize,
     fault: Option<Fault>,
+    note: &str,
 ) -> Result<(), Fail> {
     let contents = read_slip(heap, slip)?;
-    assert_eq!(rt; contents.rows.len(), rows);
-    assert_eq!(rt; contents.fault, fault);
+    assert_eq!(rt; contents.rows.len(), rows, "{note}");
+    assert_eq!(rt; contents.fault, fault, "{note}");
     Ok(())
 }
 
@@ -28,8 +29,8 @@ const EDGES: &[u8] = b"edit,tag,parent,couplings,run,drop\n\
 
 #[test]
 fn a_slip_may_hold_any_rows_or_none(rt: HostRuntime) -> Result<(), Fail> {
-    check_read(&rt, rt.alloc(), NAMES_LINE, 0, None)?;
-    check_read(&rt, rt.alloc(), EDGES, 4, None)
+    check_read(&rt, rt.alloc(), NAMES_LINE, 0, None, "the names line alone")?;
+    check_read(&rt, rt.alloc(), EDGES, 4, None, "the edges of each field")
 }
 
 /// Slips that are at fault before their first row.
@@ -55,7 +56,8 @@ fn the_first_line_is_the_names(rt: HostRuntime) -> Result<(), Fail> {
             field: 0,
             byte: 0,
         };
-        check_read(&rt, rt.alloc(), *slip, 0, Some(fault)).note(format_args!("in case {i}"))?;
+        let note = format!(in rt.alloc(); "in case {i}")?;
+        check_read(&rt, rt.alloc(), *slip, 0, Some(fault), note.as_str())?;
     }
     Ok(())
 }
@@ -74,7 +76,14 @@ fn long_slip(heap: Global, last: &[u8]) -> Result<Vec<u8>, AllocError> {
 fn a_slip_has_at_most_65536_bytes(rt: HostRuntime) -> Result<(), Fail> {
     let longest = long_slip(rt.alloc(), b"G,100000,0,0,0,0\n")?;
     assert_eq!(rt; longest.len(), 65_536);
-    check_read(&rt, rt.alloc(), longest.as_slice(), 5458, None)?;
+    check_read(
+        &rt,
+        rt.alloc(),
+        longest.as_slice(),
+        5458,
+        None,
+        "the longest slip",
+    )?;
     let too_long = long_slip(rt.alloc(), b"G,1000000,0,0,0,0\n")?;
     assert_eq!(rt; too_long.len(), 65_537);
     let fault = Fault {
@@ -83,8 +92,22 @@ fn a_slip_has_at_most_65536_bytes(rt: HostRuntime) -> Result<(), Fail> {
         field: 0,
         byte: 0,
     };
-    check_read(&rt, rt.alloc(), too_long.as_slice(), 0, Some(fault))?;
+    check_read(
+        &rt,
+        rt.alloc(),
+        too_long.as_slice(),
+        0,
+        Some(fault),
+        "one byte too long",
+    )?;
     // the length comes before every other cause
     let unended = vec![in rt.alloc(); b'g'; 65_537]?;
-    check_read(&rt, rt.alloc(), unended.as_slice(), 0, Some(fault))
+    check_read(
+        &rt,
+        rt.alloc(),
+        unended.as_slice(),
+        0,
+        Some(fault),
+        "too long with no line",
+    )
 }

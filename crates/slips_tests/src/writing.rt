@@ -11,8 +11,9 @@ fn write_over_dots(
     letter: char,
     numbers: [u32; 5],
     room: usize,
+    note: &str,
 ) -> (Result<usize, WriteFault>, [u8; 50]) {
-    assert!(rt; room <= 50);
+    assert!(rt; room <= 50, "{note}");
     let mut buffer = [b'.'; 50];
     let answer = write_row(letter, numbers, &mut buffer[0..room]);
     (answer, buffer)
@@ -25,20 +26,27 @@ fn check_refused(
     numbers: [u32; 5],
     room: usize,
     fault: WriteFault,
-) -> Result<(), Fail> {
-    let (answer, buffer) = write_over_dots(rt, letter, numbers, room);
-    assert_eq!(rt; answer.err(), Some(fault));
-    assert_eq!(rt; buffer, [b'.'; 50]);
-    Ok(())
+    note: &str,
+) {
+    let (answer, buffer) = write_over_dots(rt, letter, numbers, room, note);
+    assert_eq!(rt; answer.err(), Some(fault), "{note}");
+    assert_eq!(rt; buffer, [b'.'; 50], "{note}");
 }
 
 /// Checks that a row is written as this line in a buffer of so many bytes, and that the bytes after it stay.
-fn check_written(rt: &impl Abort, letter: char, numbers: [u32; 5], room: usize, line: &[u8]) {
-    let (answer, buffer) = write_over_dots(rt, letter, numbers, room);
-    assert_eq!(rt; answer.ok(), Some(line.len()));
-    assert!(rt; buffer.starts_with(line));
+fn check_written(
+    rt: &impl Abort,
+    letter: char,
+    numbers: [u32; 5],
+    room: usize,
+    line: &[u8],
+    note: &str,
+) {
+    let (answer, buffer) = write_over_dots(rt, letter, numbers, room, note);
+    assert_eq!(rt; answer.ok(), Some(line.len()), "{note}");
+    assert!(rt; buffer.starts_with(line), "{note}");
     for b in buffer.iter().skip(line.len()) {
-        assert_eq!(rt; *b, b'.');
+        assert_eq!(rt; *b, b'.', "{note}");
     }
 }
 
@@ -49,14 +57,15 @@ fn check_read_back(
     letter: char,
     numbers: [u32; 5],
     line: &[u8],
+    note: &str,
 ) -> Result<(), Fail> {
     let slip = [NAMES_LINE, line].concat(heap)?;
     let contents = read_slip(heap, slip.as_slice())?;
-    assert!(rt; contents.fault.is_none());
-    assert_eq!(rt; contents.rows.len(), 1);
+    assert!(rt; contents.fault.is_none(), "{note}");
+    assert_eq!(rt; contents.rows.len(), 1, "{note}");
     for row in &contents.rows {
-        assert_eq!(rt; char::from(row.values.letter.byte()), letter);
-        assert_eq!(rt; row.values.numbers(), numbers);
+        assert_eq!(rt; char::from(row.values.letter.byte()), letter, "{note}");
+        assert_eq!(rt; row.values.numbers(), numbers, "{note}");
     }
     Ok(())
 }
@@ -86,19 +95,21 @@ fn check_line(
     letter: char,
     numbers: [u32; 5],
     line: &[u8],
+    note: &str,
 ) -> Result<(), Fail> {
     let len = line.len();
-    assert!(rt; 1 <= len);
-    check_refused(rt, letter, numbers, len - 1, WriteFault::ShortBuffer)?;
-    check_written(rt, letter, numbers, len, line);
-    check_written(rt, letter, numbers, 50, line);
-    check_read_back(rt, heap, letter, numbers, line)
+    assert!(rt; 1 <= len, "{note}");
+    check_refused(rt, letter, numbers, len - 1, WriteFault::ShortBuffer, note);
+    check_written(rt, letter, numbers, len, line, note);
+    check_written(rt, letter, numbers, 50, line, note);
+    check_read_back(rt, heap, letter, numbers, line, note)
 }
 
 #[test]
 fn a_row_is_written_and_read_back(rt: HostRuntime) -> Result<(), Fail> {
     for (i, (letter, numbers, line)) in LINES.iter().enumerate() {
-        check_line(&rt, rt.alloc(), *letter, *numbers, *line).note(format_args!("in case {i}"))?;
+        let note = format!(in rt.alloc(); "in case {i}")?;
+        check_line(&rt, rt.alloc(), *letter, *numbers, *line, note.as_str())?;
     }
     Ok(())
 }
@@ -132,9 +143,11 @@ const REFUSED: [(char, [u32; 5], Cause, usize); 19] = [
 fn a_wrong_row_is_not_written(rt: HostRuntime) -> Result<(), Fail> {
     for (i, (letter, numbers, cause, field)) in REFUSED.iter().enumerate() {
         let fault = WriteFault::InField(*cause, *field);
-        check_refused(&rt, *letter, *numbers, 50, fault).note(format_args!("in case {i}"))?;
+        let note = format!(in rt.alloc(); "in case {i}")?;
+        check_refused(&rt, *letter, *numbers, 50, fault, note.as_str());
         // that the buffer is too short comes last
-        check_refused(&rt, *letter, *numbers, 0, fault).note(format_args!("in case {i}, no room"))?;
+        let note = format!(in rt.alloc(); "in case {i}, no room")?;
+        check_refused(&rt, *letter, *numbers, 0, fault, note.as_str());
     }
     Ok(())
 }

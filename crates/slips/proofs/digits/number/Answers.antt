@@ -1,8 +1,6 @@
-use Rattle.std.proofs.Common.{◌≡◌, ℕ, ◌<◌, ◌≤◌, length, get_or, sym, refl, ap, ◌∙◌, subst, arith, rules}
+use Rattle.std.proofs.Common.{◌≡◌, ℕ, ◌<◌, ◌≤◌, length, get_or, sym, refl, subst, arith, rules}
 use Rattle.std.proofs.lemmas.Result.{MatchResult-weaker}
-use Rattle.slips.specs.Format.{most}
-use Rattle.slips.specs.Rules.{Number, IsNumber}
-use Rattle.slips.specs.Inner.{digits_after}
+use Rattle.slips.specs.Rules.{Number}
 use Rattle.slips.proofs.Decimal.{number_digits, digits_number}
 use Rattle.slips.proofs.digits.number.Goals as goal
 
@@ -17,8 +15,8 @@ returns-in-48 c =
     let zero_first : get_or c.args.field.now 0 0 ≡ 48 = search rules in
     (refl, λ m. omega (arith, (number_digits c.args.field.now m.0 m.1).3 zero_first))
 
-pub returns-in-default : goal.returns-in-default
-returns-in-default c =
+pub returns-in_default : goal.returns-in_default
+returns-in_default c =
     let f = c.args.field.now in
     let some : 0 < length f = search rules in
     let lead : get_or f 0 0 ≡ 48 → length f ≡ 1 = search rules in

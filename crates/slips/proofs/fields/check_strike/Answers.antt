@@ -1,4 +1,4 @@
-use Rattle.std.proofs.Common.{◌≡◌, ℕ, ◌+◌, ◌<◌, List, length, sym, refl, ap, ◌∙◌, subst, arith, rules}
+use Rattle.std.proofs.Common.{◌≡◌, ℕ, ◌+◌, List, refl, ap, ◌∙◌, subst, rules}
 use Rattle.slips.specs.declared.rows.Letter.TheVariants.{Strike}
 use Rattle.slips.specs.declared.faults.Cause.TheVariants.{NotZero}
 use Rattle.slips.specs.Causes.{row_fault}
@@ -16,4 +16,4 @@ returns-in-Some c =
     let s : v.letter ≡ Strike = search rules in
     let first : FirstNonzero (numbers v) k = subst (λ (ns : List ℕ). FirstNonzero ns k) c.numbers.ensures c.in-Some.ensures in
     strike_at v.letter (bytes_of p) (parts_seen p) c.requires.places refl (numbers v) k s c.requires.fields c.requires.small first
-    (ap (row_fault NotZero (k + 2)) (c.place-of.ensures ∙ place_is p k first.within))
+    (ap (row_fault NotZero (k + 2)) (c.place_of.ensures ∙ place_is p k first.within))

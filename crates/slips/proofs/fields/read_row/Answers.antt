@@ -1,5 +1,5 @@
 use Rattle.std.proofs.Common.{◌≡◌, ℕ, ◌≤◌, List, [], ◌∷◌, map, length, decimal, sym, refl, ap, ◌∙◌, subst, arith, rules}
-use Rattle.std.specs.List.{AllByRecursion as All}
+use Rattle.std.specs.List.{AllByRecursion}
 use Rattle.std.proofs.lemmas.Result.{err_from_is_err_and, MatchResult-at_err}
 use Rattle.slips.specs.declared.faults.Cause.{Cause}
 use Rattle.slips.specs.declared.faults.RowFault.{RowFault}
@@ -20,39 +20,39 @@ returns-then-not-six c =
     let ne : count 44 c.args.line.now ≡ 5 → ⊥ = search rules in
     record { value = not_six_fields (λ e fs h. ne (six_count h)) refl; within = omega arith }
 
-pub returns-in-err-letter : goal.returns-in-err-letter
-returns-in-err-letter c =
-    let q = err_from_is_err_and c.from-residual.result c.from-residual.ensures.1 in
+pub returns-in_err-letter : goal.returns-in_err-letter
+returns-in_err-letter c =
+    let q = err_from_is_err_and c.from_residual.result c.from_residual.ensures.1 in
     let five : count 44 c.args.line.now ≡ 5 = search rules in
     let s = six_from_count c.args.line.now five in
-    let r = in_field_err c.letter-of.result c.in-err-letter.field-0.0 1 0 c.in-err-letter.ensures in
-    let told = MatchResult-at_err _ _ r.0 r.1 c.letter-of.ensures in
+    let r = in_field_err c.letter_of.result c.in_err-letter.field-0.0 1 0 c.in_err-letter.ensures in
+    let told = MatchResult-at_err _ _ r.0 r.1 c.letter_of.ensures in
     record {
       value = rw (q.1, q.2) (bad_letter s.0 s.1.0 s.1.1 (λ l e. let t = six_letter s.1.0 l s.1.1 e in told.1 l t.0 t.1) (r.2 ∙ ap (λ (x : Cause). row_fault x 1 0) told.0));
       within = rw (q.1, q.2) (omega (arith, ap (λ (f : RowFault). f.at) r.2));
     }
 
-pub returns-in-err-values : goal.returns-in-err-values
-returns-in-err-values c =
-    let q = err_from_is_err_and c.from-residual-in-err-values.result c.from-residual-in-err-values.ensures.1 in
-    let head : c.args.line.now ≡ letter_byte c.in-ok-letter.letter ∷ (44 ∷ c.in-ok-letter.rest.now) = search rules in
-    let h : SixFields c.args.line.now (letter_byte c.in-ok-letter.letter ∷ []) (bytes_of c.split-parts.result) =
-    record { text = head ∙ ap (λ (t : List ℕ). letter_byte c.in-ok-letter.letter ∷ t) c.split-parts.ensures.text; five = refl; first_free = (letter_apart c.in-ok-letter.letter 44 (omega arith), tt); free = c.split-parts.ensures.free } in
+pub returns-in_err-values : goal.returns-in_err-values
+returns-in_err-values c =
+    let q = err_from_is_err_and c.from_residual-in_err-values.result c.from_residual-in_err-values.ensures.1 in
+    let head : c.args.line.now ≡ letter_byte c.in_ok-letter.letter ∷ (44 ∷ c.in_ok-letter.rest.now) = search rules in
+    let h : SixFields c.args.line.now (letter_byte c.in_ok-letter.letter ∷ []) (bytes_of c.split-parts.result) =
+    record { text = head ∙ ap (λ (t : List ℕ). letter_byte c.in_ok-letter.letter ∷ t) c.split-parts.ensures.text; five = refl; first_free = (letter_apart c.in_ok-letter.letter 44 (omega arith), tt); free = c.split-parts.ensures.free } in
     record {
-      value = rw (q.1, q.2) (at_number c.in-ok-letter.letter (bytes_of c.split-parts.result) h c.in-err-values.ensures);
-      within = rw (q.1, q.2) (fault_within c.args.line.now h c.in-err-values.ensures);
+      value = rw (q.1, q.2) (at_number c.in_ok-letter.letter (bytes_of c.split-parts.result) h c.in_err-values.ensures);
+      within = rw (q.1, q.2) (fault_within c.args.line.now h c.in_err-values.ensures);
     }
 
 pub returns : goal.returns
 returns c =
-    let v = c.in-ok-values.values in
-    let e = c.in-ok-values.ensures in
-    let head : c.args.line.now ≡ letter_byte c.in-ok-letter.letter ∷ (44 ∷ c.in-ok-letter.rest.now) = search rules in
+    let v = c.in_ok-values.values in
+    let e = c.in_ok-values.ensures in
+    let head : c.args.line.now ≡ letter_byte c.in_ok-letter.letter ∷ (44 ∷ c.in_ok-letter.rest.now) = search rules in
     let whole : c.args.line.now ≡ row_text v = head
-    ∙ ap (λ (t : List ℕ). letter_byte c.in-ok-letter.letter ∷ t) (c.split-parts.ensures.text ∙ ap commaed e.2)
+    ∙ ap (λ (t : List ℕ). letter_byte c.in_ok-letter.letter ∷ t) (c.split-parts.ensures.text ∙ ap commaed e.2)
     ∙ ap (λ (l : Letter). letter_byte l ∷ commaed (map decimal (numbers v))) (sym e.0) in
     let places : parts_seen c.split-parts.result ≡ laid 2 (map decimal (numbers v)) = c.split-parts.ensures.places ∙ ap (laid 2) e.2 in
     record {
       value = (e.1, whole, places);
-      within = subst (λ (ts : List Text). All (λ t. t.place ≤ length c.args.line.now) ts) (sym places) (laid_within 2 (length c.args.line.now) (map decimal (numbers v)) (omega (arith, ap length whole)));
+      within = subst (λ (ts : List Text). AllByRecursion (λ t. t.place ≤ length c.args.line.now) ts) (sym places) (laid_within 2 (length c.args.line.now) (map decimal (numbers v)) (omega (arith, ap length whole)));
     }

@@ -1,23 +1,21 @@
-use Rattle.std.proofs.Common.{◌≡◌, ℕ, ◌≤◌, List, [], ◌∷◌, map, length, take, decimal, sym, refl, ap, ◌∙◌, arith, rules}
+use Rattle.std.proofs.Common.{refl, arith}
 use Rattle.std.proofs.lemmas.Result.{MatchResult-at_ok}
-use Rattle.slips.specs.Format.{Proper, numbers, row_text}
-use Rattle.slips.specs.Layout.{Text, laid, field_seen}
-use Rattle.slips.specs.Inner.{shifted, parts_seen}
+use Rattle.slips.specs.Inner.{parts_seen}
 use Rattle.slips.proofs.Finding.{row_found, on_line_ok}
 use Rattle.slips.proofs.fields.row_at.Goals as goal
 
 pub moved-requires-5 : goal.moved-requires-5
 moved-requires-5 c =
-    let was = on_line_ok c.read-row.result _ c.args.line c.args.byte c.in-ok-parts.ensures in
-    let h = MatchResult-at_ok _ _ _ was c.read-row.ensures.within in
+    let was = on_line_ok c.read_row.result _ c.args.line c.args.byte c.in_ok-parts.ensures in
+    let h = MatchResult-at_ok _ _ _ was c.read_row.ensures.within in
     omega (arith, h.1.1.1.1.0, c.requires)
 
 pub returns : goal.returns
 returns c =
-    let v = c.in-ok-parts.values in
-    let p = c.in-ok-parts.parts in
-    let was = on_line_ok c.read-row.result _ c.args.line c.args.byte c.in-ok-parts.ensures in
-    let h = MatchResult-at_ok _ _ _ was c.read-row.ensures.value in
+    let v = c.in_ok-parts.values in
+    let p = c.in_ok-parts.parts in
+    let was = on_line_ok c.read_row.result _ c.args.line c.args.byte c.in_ok-parts.ensures in
+    let h = MatchResult-at_ok _ _ _ was c.read_row.ensures.value in
     let m1 = c.moved.ensures in
     let m2 = c.moved-2.ensures in
     let m3 = c.moved-3.ensures in

@@ -1,6 +1,6 @@
-use Rattle.std.proofs.Common.{◌≡◌, ℕ, ◌≤◌, length, drop, sym, refl, ap, ◌∙◌, subst, arith, rules}
+use Rattle.std.proofs.Common.{◌≡◌, ℕ, ◌≤◌, length, drop, sym, ap, subst, arith, rules}
 use Rattle.slips.specs.Format.{most_bytes, names_line}
-use Rattle.slips.specs.Seen.{a_fault, RowsAnswer, Answers, no_names, first, later}
+use Rattle.slips.specs.Seen.{a_fault, RowsAnswer, no_names, first, later}
 use Rattle.slips.proofs.Answering.{names_length}
 use Rattle.slips.proofs.walk.rows_start.Goals as goal
 
@@ -23,4 +23,4 @@ pub returns-in-Err : goal.returns-in-Err
 returns-in-Err c =
     let few : length c.args.slip.now ≤ most_bytes = search rules in
     let one : c.args.line ≡ 1 = search rules in
-    record { start = no_names c.in-Err.cause few one c.in-Err.ensures (ap a_fault c.of-line-in-Err.ensures); counted = tt }
+    record { start = no_names c.in-Err.cause few one c.in-Err.ensures (ap a_fault c.of_line-in-Err.ensures); counted = tt }

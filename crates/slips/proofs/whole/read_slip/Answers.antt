@@ -1,4 +1,4 @@
-use Rattle.std.proofs.Common.{◌≡◌, ℕ, List, [], ◌∷◌, ◌++◌, map, length, vec_items, sym, refl, ap, ◌∙◌, subst, arith, Bor, rules}
+use Rattle.std.proofs.Common.{◌≡◌, ℕ, List, [], ◌∷◌, ◌++◌, map, length, vec_items, sym, refl, ap, ◌∙◌, subst, arith, Bor}
 use Rattle.std.proofs.lemmas.List.{map_push, length_push}
 use Rattle.std.proofs.lemmas.Slice.{pushed}
 use Rattle.std.proofs.lemmas.Result.{err_from_is_err_and}
@@ -22,7 +22,7 @@ loop-row-preserved c =
     let rows = vec_items c.loop-row.rows in
     let inv = c.loop-row.invariant in
     let t = turn inv.0 inv.1 c.in-Row.ensures.answer c.in-Row.ensures.moved in
-    let items : vec_items c.push.new.self ≡ rows ++ (row ∷ []) = pushed (row ∷ []) refl c.in-ok-push.was c.push.ensures.items in
+    let items : vec_items c.push.new.self ≡ rows ++ (row ∷ []) = pushed (row ∷ []) refl c.in_ok-push-in-Row.was c.push.ensures.items in
     let values : values_in (vec_items c.push.new.self) ≡ values_in rows ++ (row.values ∷ []) = ap values_in items ∙ map_push (λ (r : Row). r.values) rows row in
     let found : map row_seen (vec_items c.push.new.self) ≡ map row_seen rows ++ (row_seen row ∷ []) = ap (map row_seen) items ∙ map_push row_seen rows row in (
       ap (λ (r : Bor (List ℕ)). r.now) c.in-Row.ensures.slip ∙ inv.0,
@@ -30,9 +30,9 @@ loop-row-preserved c =
       found ∙ rows_more (map row_seen rows) (values_in rows) (row_seen row) inv.2 t.0 ∙ ap (found_from (length names_line) 2) (sym values),
     )
 
-pub returns-in-err-push : goal.returns-in-err-push
-returns-in-err-push c =
-    let q = err_from_is_err_and c.from-residual.result c.from-residual.ensures.1 in
+pub returns-in_err-push-in-Row : goal.returns-in_err-push-in-Row
+returns-in_err-push-in-Row c =
+    let q = err_from_is_err_and c.from_residual.result c.from_residual.ensures.1 in
     let vs = values_in (vec_items c.loop-row.rows) ++ (c.in-Row.row.values ∷ []) in
     let t = turn c.loop-row.invariant.0 c.loop-row.invariant.1 c.in-Row.ensures.answer c.in-Row.ensures.moved in
     record {

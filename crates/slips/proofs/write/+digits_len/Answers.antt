@@ -11,4 +11,4 @@ returns-else-n-lt10 t c =
     let small : c.args.n < 2 ^ 64 = search rules in
     let m = len_more c.args.n (search rules) small in
     let b = length-decimal-le 10 c.args.n (omega arith) (search rules) small in
-    record { value = search (rules, len_more); bound = omega (arith, m, b, c.digits-len.ensures.value) }
+    record { value = search (rules, len_more); bound = omega (arith, m, b, c.digits_len.ensures.value) }

@@ -1,4 +1,4 @@
-use Rattle.std.proofs.Common.{length, ap, arith, rules}
+use Rattle.std.proofs.Common.{rules}
 use Rattle.slips.proofs.Puts.{text_none, len_text_more}
 use Rattle.slips.proofs.write.+fields_len.Goals as goal
 

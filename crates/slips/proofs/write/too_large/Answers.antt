@@ -1,4 +1,4 @@
-use Rattle.std.proofs.Common.{◌<◌, ◌≤◌, length, arith, rules}
+use Rattle.std.proofs.Common.{◌<◌, ◌≤◌, rules}
 use Rattle.std.proofs.ByRecursion.{All-from_get_or}
 use Rattle.slips.specs.Format.{most}
 use Rattle.slips.proofs.write.too_large.Goals as goal

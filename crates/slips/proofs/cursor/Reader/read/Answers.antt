@@ -1,4 +1,4 @@
-use Rattle.std.proofs.Common.{◌≡◌, ℕ, ◌+◌, Option, sym, refl, ap, ◌∙◌, subst, rules}
+use Rattle.std.proofs.Common.{ℕ, ◌+◌, Option, refl, ap, subst}
 use Rattle.slips.specs.declared.rows.Row.{Row}
 use Rattle.slips.specs.Seen.{place, Answers}
 use Rattle.slips.specs.Inner.{step, StepAfter}
@@ -13,10 +13,10 @@ returns-in-Err c =
     let h = c.in-Err.ensures.answer in
     record { answer = h; only = λ a k. answers_once s.slip.now s.byte s.line a _ k h; row = tt; moved = refl; whole = λ vs p. at_fault s.slip.now vs s.byte s.line _ p h; slip = refl }
 
-pub returns-in-default : goal.returns-in-default
-returns-in-default c =
+pub returns-in_default : goal.returns-in_default
+returns-in_default c =
     let s = c.args.self.now in
-    let h = subst (λ (o : Option (Row × ℕ)). Answers s.slip.now s.byte s.line (step o)) c.in-default.is c.in-Ok.ensures.answer in
+    let h = subst (λ (o : Option (Row × ℕ)). Answers s.slip.now s.byte s.line (step o)) c.in_default.is c.in-Ok.ensures.answer in
     record { answer = h; only = λ a k. answers_once s.slip.now s.byte s.line a _ k h; row = tt; moved = refl; whole = λ vs p. at_end s.slip.now vs s.byte s.line p h; slip = refl }
 
 pub returns : goal.returns
