@@ -1,4 +1,6 @@
 //! `loomreport`: reads a slip from standard input and prints its report.
+#![tactic(auto)]
+
 use report::{enough, slip_report};
 use std::io;
 use std::io::Read;

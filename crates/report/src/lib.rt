@@ -1,4 +1,6 @@
 //! The report: what the program prints of a slip, as text. The program itself only reads its input and prints this.
+#![tactic(auto)]
+
 ghost use Rattle.std.specs.Prelude.{◌≡◌, ℕ, List, ◌++◌, take, IfOk, string_bytes, OnOk};
 ghost use Rattle.std.specs.List.{flat_map};
 ghost use Rattle.report.specs.Lines.{line_text, fault_text, Reported};

@@ -1,4 +1,4 @@
-use Rattle.std.proofs.Common.{◌≡◌, ℕ, List, ◌++◌, get_or, take, string_bytes, ap, ◌∙◌, rules}
+use Rattle.std.proofs.Common.{List, ◌++◌, string_bytes, ap, ◌∙◌}
 use Rattle.std.specs.List.{flat_map}
 use Rattle.std.proofs.lemmas.List.{take_all}
 use Rattle.slips.specs.declared.rows.Row.{Row}
@@ -8,7 +8,7 @@ use Rattle.report.proofs.put_rows.Goals as goal
 
 pub loop-row-preserved : goal.loop-row-preserved
 loop-row-preserved c =
-    lines_more (string_bytes c.args.text.now) (string_bytes c.put-line.new.text) (string_bytes c.loop-row.text) c.args.rows.now c.loop-row.row-index _ c.loop-row-test.true c.loop-row.invariant c.in-ok-put-line.ensures
+    lines_more (string_bytes c.args.text.now) (string_bytes c.put_line.new.text) (string_bytes c.loop-row.text) c.args.rows.now c.loop-row.row-index _ c.loop-row-test.true c.loop-row.invariant c.in_ok-put_line.ensures
 
 pub returns : goal.returns
 returns c = c.loop-row.invariant ∙ ap (λ (rs : List Row). string_bytes c.args.text.now ++ flat_map (λ (w : Row). line_text w.line 0) rs) (take_all _ c.args.rows.now c.loop-row-test.false)

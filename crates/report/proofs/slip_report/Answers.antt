@@ -1,4 +1,4 @@
-use Rattle.std.proofs.Common.{◌≡◌, ℕ, List, ◌++◌, length, vec_items, string_bytes, codes, Option, sym, ap, ◌∙◌, append_assoc, rules}
+use Rattle.std.proofs.Common.{◌≡◌, ℕ, List, ◌++◌, length, vec_items, string_bytes, codes, Option, sym, ap, ◌∙◌, append_assoc}
 use Rattle.std.specs.List.{flat_map}
 use Rattle.slips.specs.declared.faults.Fault.{Fault}
 use Rattle.slips.specs.declared.rows.Row.{Row}
@@ -11,14 +11,14 @@ use Rattle.report.proofs.slip_report.Goals as goal
 
 pub returns : goal.returns
 returns c =
-    let told = c.in-ok-rows.ensures in
-    let rows = vec_items c.in-ok-rows.field-0.rows in
-    let lines : flat_map (λ (w : Row). line_text w.line 0) c.as-slice.result.now ≡ rows_text 2 (values_in rows) =
-    ap (flat_map (λ (w : Row). line_text w.line 0)) c.as-slice.ensures.value ∙ rows_lines (length names_line) 2 rows told.rows in
-    let fault = c.in-ok-rows.field-0.fault in
-    let text : string_bytes c.put-fault.new.text ≡ codes "line,slip\n" ++ (rows_text 2 (values_in rows) ++ fault_text fault) = c.in-ok-put-fault.ensures
-    ∙ ap (λ (t : List ℕ). t ++ fault_text c.in-ok-rows.field-0.fault)
-    (c.in-ok-put-rows.ensures ∙ ap (λ (t : List ℕ). t ++ flat_map (λ (w : Row). line_text w.line 0) c.as-slice.result.now) c.in-ok-text.ensures.ok
+    let told = c.in_ok-rows.ensures in
+    let rows = vec_items c.in_ok-rows.field-0.rows in
+    let lines : flat_map (λ (w : Row). line_text w.line 0) c.as_slice.result.now ≡ rows_text 2 (values_in rows) =
+    ap (flat_map (λ (w : Row). line_text w.line 0)) c.as_slice.ensures.value ∙ rows_lines (length names_line) 2 rows told.rows in
+    let fault = c.in_ok-rows.field-0.fault in
+    let text : string_bytes c.put_fault.new.text ≡ codes "line,slip\n" ++ (rows_text 2 (values_in rows) ++ fault_text fault) = c.in_ok-put_fault.ensures
+    ∙ ap (λ (t : List ℕ). t ++ fault_text c.in_ok-rows.field-0.fault)
+    (c.in_ok-put_rows.ensures ∙ ap (λ (t : List ℕ). t ++ flat_map (λ (w : Row). line_text w.line 0) c.as_slice.result.now) c.in_ok-text.ensures.ok
     ∙ ap (λ (t : List ℕ). codes "line,slip\n" ++ t) lines)
     ∙ append_assoc (codes "line,slip\n") (rows_text 2 (values_in rows)) (fault_text fault) in
     record {
