@@ -1,0 +1,76 @@
+// The edits that rows ask for, in each kind.
+ghost use Rattle.std.specs.Prelude.{◌≡◌, map, IfOk};
+ghost use Rattle.books.specs.declared.edits.Edit.{Edit as AnEdit};
+ghost use Rattle.slips.specs.declared.rows.Values.{Values as TheValues};
+ghost use Rattle.slips.specs.Seen.{values_in};
+ghost use Rattle.columns.specs.Asked.{edit_of, edit_m, edit_c};
+
+use books::{Answer, Edit, Entry};
+use lengths::{Couplings, FirstThen, Length, Millimetres, kind_c};
+use slips::{Letter, Row, Values};
+use std::alloc::{AllocError, Global};
+
+/// A kind in which rows of a slip ask for edits.
+pub(crate) trait Asked: Length {
+    // The edit that the values of a row ask for.
+    ghost asked: { TheValues → AnEdit Self };
+
+    /// The edit that the values of a row ask for.
+    fn edit(values: Values) -> Edit<Self>
+        ensures { result ≡ asked values };
+}
+
+/// The edit of a row, with its run and drop in some kind.
+fn edit_of<K: Length>(values: Values, run: K, drop: K) -> Edit<K>
+    ensures { result ≡ edit_of values run drop }
+{
+    let tag = values.tag;
+    let parent = values.parent;
+    match values.letter {
+        Letter::Growth => Edit::Growth {
+            tag,
+            parent,
+            run,
+            drop,
+        },
+        Letter::Strike => Edit::Strike { tag },
+    }
+}
+
+impl Asked for Millimetres {
+    ghost asked = { edit_m };
+
+    fn edit(values: Values) -> Edit<Millimetres> {
+        let run = Millimetres {
+            value: values.run as u64,
+        };
+        let drop = Millimetres {
+            value: values.drop as u64,
+        };
+        edit_of(values, run, drop)
+    }
+}
+
+impl Asked for FirstThen<Couplings, Millimetres> {
+    ghost asked = { edit_c };
+
+    fn edit(values: Values) -> Edit<FirstThen<Couplings, Millimetres>> {
+        let run = kind_c(values.couplings as u64, values.run as u64);
+        let drop = kind_c(0, values.drop as u64);
+        edit_of(values, run, drop)
+    }
+}
+
+/// The edits that rows ask for, without answers yet.
+pub(crate) fn waiting<K: Asked>(heap: Global, rows: &[Row<'_>]) -> Result<Vec<Entry<K>>, AllocError>
+    ensures { IfOk result (λ v. map (λ n. n.edit) v.items ≡ map K.Asked.asked (values_in rows.now)) }
+{
+    let mut noted = Vec::new(heap);
+    for row in rows {
+        noted.push(Entry {
+            edit: K::edit(row.values),
+            answer: Answer::Waiting,
+        })?;
+    }
+    Ok(noted)
+}
