@@ -1,6 +1,5 @@
 -- What a column holds.
 use Rattle.std.specs.Prelude.{ℕ, ◌/◌, ◌%◌}
-use Rattle.cells.specs.declared.fours.One.{One}
 use Rattle.cells.specs.declared.fours.Four.{Four}
 use Rattle.cells.specs.declared.columns.Column.{Column}
 use Rattle.cells.specs.Fours.{of_four}

@@ -1,4 +1,4 @@
-use Rattle.std.proofs.Common.{◌≡◌, Bool, cond, ap, ◌∙◌, rules}
+use Rattle.std.proofs.Common.{Bool, cond, ap, ◌∙◌}
 use Rattle.cells.specs.Columns.{held}
 use Rattle.cells.proofs.Places.{one_place}
 use Rattle.cells.proofs.columns.Column.put.Goals as goal
