@@ -10,14 +10,14 @@ loop-tag-init g c = (c.told-parents, λ t low less. absurd (omega arith))
 
 pub loop-tag-preserved : goal.loop-tag-preserved
 loop-tag-preserved g c =
-    let k = g.Kind.Length.figures in
+    let k = g.B.Kind.Length.figures in
     let state = g.B.Book.state c.args.book.now in
     let tag = c.loop-tag.tag in
-    let is = c.state-of-state.ensures c.loop-tag.auto.tag in (
-      length-set c.loop-tag.parents tag c.parent-of.result ∙ c.loop-tag.invariant.0,
+    let is = c.state_of-state.ensures c.loop-tag.auto.tag in (
+      length-set c.loop-tag.parents tag c.parent_of.result ∙ c.loop-tag.invariant.0,
       read_more k state c.loop-tag.parents (held c.loop-tag.runs) (held c.put.new.self) (held c.loop-tag.drops) (held c.put-in-loop-tag.new.self)
-          tag c.parent-of.result c.lengths-of.result.0 c.lengths-of.result.1 c.loop-tag.auto.tag c.loop-tag-test.true c.loop-tag.invariant.0
-          (c.parent-of.ensures ∙ ap parent_of is) (c.lengths-of.ensures.0 ∙ ap (run_of k) is) (c.lengths-of.ensures.1 ∙ ap (drop_of k) is)
+          tag c.parent_of.result c.lengths_of.result.0 c.lengths_of.result.1 c.loop-tag.auto.tag c.loop-tag-test.true c.loop-tag.invariant.0
+          (c.parent_of.ensures ∙ ap parent_of is) (c.lengths_of.ensures.0 ∙ ap (run_of k) is) (c.lengths_of.ensures.1 ∙ ap (drop_of k) is)
           c.put.ensures c.put-in-loop-tag.ensures c.loop-tag.invariant.1,
     )
 

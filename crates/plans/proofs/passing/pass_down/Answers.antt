@@ -20,9 +20,9 @@ loop-tag-preserved g c =
     let tag = c.loop-tag.tag in
     let memory = c.loop-tag.memory in
     let met = get_or c.args.one.now tag false && get_or c.args.two.now tag false in
-    let done = c.down-at-beyond.ensures in
+    let done = c.down_at-beyond.ensures in
     let inv = c.loop-tag.invariant in
-    let written : c.down-at-beyond.new.memory ≡ cond met (set memory (tag - 1) c.loop-tag.beyond) memory = done.memory in (
+    let written : c.down_at-beyond.new.memory ≡ cond met (set memory (tag - 1) c.loop-tag.beyond) memory = done.memory in (
       ap length written ∙ cond_both met _ _ (λ (m : List g.row.K.Denot). length m ≡ length memory) (λ _. length-set memory (tag - 1) c.loop-tag.beyond) (λ _. refl) ∙ inv.0,
       ap (drop c.args.size) written
           ∙ cond_both met _ _ (λ (m : List g.row.K.Denot). drop c.args.size m ≡ drop c.args.size memory) (λ _. drop-set-lt c.args.size memory (tag - 1) c.loop-tag.beyond (omega (arith, inv.2, c.loop-tag-test.true))) (λ _. refl)

@@ -31,7 +31,7 @@ loop-tag-preserved g c =
     let o = get_or c.args.one.now tag false in
     let w = get_or c.args.two.now tag false in
     let run = held c.args.runs.now (tag - 1) in
-    let written : c.up-at.new.memory ≡ up_to k memory p o w tag run = c.up-at.ensures in
+    let written : c.up_at.new.memory ≡ up_to k memory p o w tag run = c.up_at.ensures in
     let inv = c.loop-tag.invariant in (
       ap length written ∙ up_long k memory p o w tag run ∙ inv.0,
       ap (drop size) written ∙ up_rest k memory p o w tag run size (omega arith) ∙ inv.1,
