@@ -1,5 +1,5 @@
 -- What the passes over a tree are given: the tree as it was read, and the two ways up from the ends of a path.
-use Rattle.std.specs.Prelude.{◌≡◌, ℕ, ◌+◌, ◌-◌, ◌≤◌, Bool, true, false, cond, not, ◌&&◌, ◌||◌, List, ◌==◌, slice_index, slice_index_or, slice_set}
+use Rattle.std.specs.Prelude.{◌≡◌, ℕ, ◌+◌, ◌-◌, ◌≤◌, Bool, false, cond, not, ◌&&◌, ◌||◌, List, ◌==◌, slice_index, slice_index_or, slice_set}
 use Rattle.lengths.specs.Figures.{Figures}
 use Rattle.trees.proofs.Trees.{Tree, Stands, Joined, side}
 

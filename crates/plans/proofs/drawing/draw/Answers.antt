@@ -1,4 +1,4 @@
-use Rattle.std.proofs.Common.{◌≡◌, ap, ◌∙◌, arith, rules}
+use Rattle.std.proofs.Common.{ap, ◌∙◌, arith}
 use Rattle.std.proofs.lemmas.List.{length-set}
 use Rattle.cells.specs.Columns.{held}
 use Rattle.plans.specs.Drawn.{parent_of, run_of, drop_of}
@@ -16,7 +16,7 @@ loop-tag-preserved g c =
     let is = c.state_of-state.ensures c.loop-tag.auto.tag in (
       length-set c.loop-tag.parents tag c.parent_of.result ∙ c.loop-tag.invariant.0,
       read_more k state c.loop-tag.parents (held c.loop-tag.runs) (held c.put.new.self) (held c.loop-tag.drops) (held c.put-in-loop-tag.new.self)
-          tag c.parent_of.result c.lengths_of.result.0 c.lengths_of.result.1 c.loop-tag.auto.tag c.loop-tag-test.true c.loop-tag.invariant.0
+          tag c.parent_of.result c.lengths_of.result.0 c.lengths_of.result.1 c.loop-tag.auto.tag (omega (arith, c.loop-tag-test.true)) c.loop-tag.invariant.0
           (c.parent_of.ensures ∙ ap parent_of is) (c.lengths_of.ensures.0 ∙ ap (run_of k) is) (c.lengths_of.ensures.1 ∙ ap (drop_of k) is)
           c.put.ensures c.put-in-loop-tag.ensures c.loop-tag.invariant.1,
     )

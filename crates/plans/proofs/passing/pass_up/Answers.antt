@@ -1,4 +1,4 @@
-use Rattle.std.proofs.Common.{◌≡◌, ℕ, ◌+◌, ◌-◌, ◌<◌, ◌≤◌, Bool, true, false, ◌⊎◌, List, length, get_or, drop, sym, refl, ap, ◌∙◌, subst, inl, inr, arith, rules}
+use Rattle.std.proofs.Common.{◌≡◌, ℕ, ◌+◌, ◌-◌, ◌<◌, ◌≤◌, true, false, List, length, get_or, drop, sym, refl, ap, ◌∙◌, subst, inl, inr, arith}
 use Rattle.std.proofs.lemmas.Bool.{cases_eq}
 use Rattle.cells.specs.Columns.{held}
 use Rattle.trees.proofs.Trees.{side, nearest}
@@ -25,7 +25,7 @@ loop-tag-preserved g c =
     let tag = c.loop-tag.tag in
     let size = c.args.size in
     let low : 2 ≤ tag = c.loop-tag.auto.tag in
-    let high : tag < size + 1 = c.loop-tag-test.true in
+    let high : tag < size + 1 = omega (arith, c.loop-tag-test.true) in
     let memory = c.loop-tag.memory in
     let p = get_or c.args.parents.now tag 0 in
     let o = get_or c.args.one.now tag false in
