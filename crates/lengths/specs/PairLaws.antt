@@ -1,4 +1,4 @@
--- The laws of the first_then kind, from the laws of its parts alone.
+-- The laws of the first-then kind, from the laws of its parts alone.
 use Rattle.std.specs.Prelude.{◌≡◌, ℕ, false}
 use Rattle.std.proofs.Common.{sym, ap, ◌∙◌}
 use Rattle.std.proofs.lemmas.Bool.{and_parts, and_from, both_ways}

@@ -1,4 +1,4 @@
-// The first_then kind, made from any two kinds, and the two kinds that the shop uses.
+// The first-then kind, made from any two kinds, and the two kinds that the shop uses.
 ghost use Rattle.std.specs.Prelude.{◌≡◌, true};
 ghost use Rattle.lengths.specs.Figures.{Less};
 ghost use Rattle.lengths.specs.Pairs.{first_then, kind_c_figures, figure_c};

@@ -50,7 +50,8 @@ pub fn slip_report(heap: Global, slip: &[u8]) -> Result<String, AllocError>
 
 /// How many bytes of an input are enough for its report: of a longer input they are reported as all of it would be.
 pub fn enough() -> u64
-    ensures { (input text : List ℕ) → Reported (take result input) text → Reported input text }
+    ensures bytes { result ≡ 65537 }
+    ensures enough { (input text : List ℕ) → Reported (take result input) text → Reported input text }
 {
     65_537
 }

@@ -1,5 +1,5 @@
 -- Which fault a line has, and which a slip has: the first cause in the order of the checks.
-use Rattle.std.specs.Prelude.{◌≡◌, ℕ, ◌+◌, ◌<◌, ◌≤◌, List, [], ◌∷◌, ◌++◌, length, get_or, take, drop, Some, None, decimal, Option, ◌≢◌, slice_index, slice_index_or}
+use Rattle.std.specs.Prelude.{◌≡◌, ℕ, ◌+◌, ◌<◌, ◌≤◌, List, [], ◌∷◌, ◌++◌, length, take, drop, Some, None, decimal, Option, ◌≢◌, slice_index, slice_index_or}
 use Rattle.std.specs.List.{AllByRecursion}
 use Rattle.slips.specs.declared.faults.Cause.{Cause}
 use Rattle.slips.specs.declared.faults.Cause.TheVariants.{TooLong, NotNames, NotSixFields, BadLetter, BadNumber, NotZero, Unended}
@@ -28,7 +28,7 @@ pub record FirstNonzero (ns : List ℕ) (k : ℕ) : Type 0 where
   pub after_tag : 1 ≤ k
   pub within : k < length ns
   pub zero_before : (j : ℕ) → 1 ≤ j → j < k → slice_index ns j ≡ 0
-  pub not_zero : get_or ns k 0 ≡ 0 → ⊥
+  pub not_zero : slice_index ns k ≢ 0
 
 -- the line has six fields, f and the five fs, parted by commas
 pub record SixFields (line f : List ℕ) (fs : List (List ℕ)) : Type 0 where
