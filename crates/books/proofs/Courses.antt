@@ -1,7 +1,7 @@
 -- Edits that are done one after another: what one edit does, and what a list of them comes to.
-use Rattle.std.proofs.Common.{◌≡◌, ℕ, ◌<◌, true, false, ◌⊎◌, List, [], ◌∷◌, ◌++◌, map, length, get_or, set, IfOk, IfErr, Some, None, Ok, Err, Option, Result, sym, refl, ap, ◌∙◌, subst, inl, inr, arith, MatchResult}
+use Rattle.std.proofs.Common.{◌≡◌, ℕ, true, false, ◌⊎◌, List, [], ◌∷◌, ◌++◌, map, IfOk, IfErr, Some, None, Ok, Err, Option, Result, sym, refl, ap, ◌∙◌, subst, inl, inr, arith, MatchResult}
 use mathlib.Core.Path.{fun_ext}
-use Rattle.std.proofs.lemmas.List.{append-nil, append_assoc, map-set, get_or-map, set-get_or}
+use Rattle.std.proofs.lemmas.List.{append-nil, append_assoc}
 use Rattle.std.proofs.lemmas.Bool.{cases_Bool, cases_eq, both_ways}
 use Rattle.lengths.specs.Figures.{Figures}
 use Rattle.books.specs.declared.causes.Refusal.{Refusal}
@@ -14,10 +14,10 @@ use Rattle.books.specs.declared.edits.Entry.{Entry}
 use Rattle.books.specs.declared.states.State.{State}
 use Rattle.books.specs.declared.states.State.TheVariants.{Blank, Struck, Standing}
 use Rattle.books.specs.Causes.{answered}
-use Rattle.books.specs.Edits.{Among, Explains, Led, CalledFor, Done, Course, Tried, nothing, then, told, verdict, Wrote, end, wrote, idle}
+use Rattle.books.specs.Edits.{Explains, Led, CalledFor, Done, Course, Tried, nothing, then, told, verdict, Wrote, end, wrote, idle}
 use Rattle.books.specs.States.{is_struck, New, Hangs, Grown, StruckOut, Same}
-use Rattle.books.proofs.Members.{among_some}
-use Rattle.books.proofs.Steps.{not_blank, unaccepted_step, growth_step, strike_step}
+use Rattle.books.proofs.Runs.{entry_as}
+use Rattle.books.proofs.Steps.{unaccepted_step, growth_step, strike_step}
 use Rattle.books.proofs.Tables.{may_grow, may_strike}
 
 pub no_cause : (tag : ℕ) (o : Option Refusal) → answers.Accepted ≡ told (answered tag tt o) → o ≡ None
@@ -25,13 +25,13 @@ no_cause tag None e = refl
 no_cause tag (Some r) e = let z : ◌≡◌ {A = ℕ} 0 1 = cc in absurd (omega arith)
 
 -- what a growth and a strike of a book did, from their own promises
-pub growth_done : {K : Type 0} (s t : ℕ → State K) (tag parent : ℕ) (run drop : K) (res : Result (Unit {0}) Refused) → MatchResult res (λ _. Grown s t tag (Standing parent run drop)) (λ _. Same s t) → Done (Growth tag parent run drop) (told res) s t
-growth_done s t tag parent run drop (Ok u) c = c
-growth_done s t tag parent run drop (Err f) c = c
+pub growth_did : {K : Type 0} (s t : ℕ → State K) (tag parent : ℕ) (run drop : K) (res : Result (Unit {0}) Refused) → MatchResult res (λ _. Grown s t tag (Standing parent run drop)) (λ _. Same s t) → Done (Growth tag parent run drop) (told res) s t
+growth_did s t tag parent run drop (Ok u) c = c
+growth_did s t tag parent run drop (Err f) c = c
 
-pub strike_done : {K : Type 0} (s t : ℕ → State K) (tag : ℕ) (res : Result (Unit {0}) Refused) → MatchResult res (λ _. StruckOut s t tag) (λ _. Same s t) → Done (Strike tag) (told res) s t
-strike_done s t tag (Ok u) c = c
-strike_done s t tag (Err f) c = c
+pub strike_did : {K : Type 0} (s t : ℕ → State K) (tag : ℕ) (res : Result (Unit {0}) Refused) → MatchResult res (λ _. StruckOut s t tag) (λ _. Same s t) → Done (Strike tag) (told res) s t
+strike_did s t tag (Ok u) c = c
+strike_did s t tag (Err f) c = c
 
 -- what a refusal leaves
 pub when_refused : {X : Type 0} {a : Answer} (res : Result (Unit {0}) Refused) → a ≡ told res → IfErr res (λ _. X) → (a ≡ answers.Accepted → ⊥) → X
@@ -118,10 +118,6 @@ done_once s t u (Strike tag) answers.Waiting a b = same_once a b
 done_once s t u (Growth tag parent run drop) (answers.Refused f) a b = same_once a b
 done_once s t u (Strike tag) (answers.Refused f) a b = same_once a b
 
--- an edit with its answer, under other names
-entry_as : {K : Type 0} {e f : Edit K} {a b : Answer} → e ≡ f → a ≡ b → ◌≡◌ {A = Entry K} (record { edit = e; answer = a }) (record { edit = f; answer = b })
-entry_as p q = λ i. record { edit = p i; answer = q i }
-
 -- the same edits from the same states are answered alike and leave the same states
 pub course_once : {K : Type 0} {k : Figures K} {size : ℕ} {ns ms : List (Entry K)} {s t s' t' : ℕ → State K} → Course k size ns s t → Course k size ms s' t'
     → map (λ (n : Entry K). n.edit) ms ≡ map (λ (n : Entry K). n.edit) ns → Same s s' → (ms ≡ ns) × Same t t'
@@ -146,35 +142,6 @@ new_same {K} {k} {s} {t} a b x = elim (cases_eq x 1) [ inl e ↦ ap t e ∙ b.ro
 pub tried_once : {K : Type 0} {k : Figures K} {size : ℕ} {edits : List (Edit K)} {ns ms : List (Entry K)} → Tried k size edits ns → Tried k size edits ms → ms ≡ ns
 tried_once a b = (course_once a.course b.course (b.same ∙ sym a.same) (new_same a.new b.new)).0
 
--- an answer that is noted leaves the edits
-pub edits_kept : {K : Type 0} (ns : List (Entry K)) (i : ℕ) (d : Entry K) (a : Answer) → i < length ns
-    → map (λ (n : Entry K). n.edit) (set ns i (record { edit = (get_or ns i d).edit; answer = a })) ≡ map (λ (n : Entry K). n.edit) ns
-edits_kept {K} ns i d a h =
-    map-set (λ (n : Entry K). n.edit) ns i _
-    ∙ ap (set (map (λ (n : Entry K). n.edit) ns) i) (sym (get_or-map (λ (n : Entry K). n.edit) ns i d d.edit h))
-    ∙ set-get_or (map (λ (n : Entry K). n.edit) ns) i d.edit
-
--- the empty list leads to a new book
-pub led_new : {K : Type 0} {k : Figures K} (s : ℕ → State K) → New k s → Led k [] s
-led_new {K} {k} s new = record {
-  orderly = record {
-    above = λ t p r d m. absurd (nowhere m);
-    grounded = λ t p r d m. absurd (nowhere m);
-    once = λ t p q r d a b m n. absurd (nowhere m);
-    named = λ q m. absurd (nowhere m);
-  };
-  explains = record {
-    root = new.root;
-    standing = λ t p r d n e. absurd (not_blank (sym e ∙ new.blank t n));
-    stood = λ t p r d sb. absurd (nowhere sb.grew);
-    blank = λ t p r d e m. absurd (nowhere m);
-    never = λ t n f. new.blank t n;
-  };
-}
-  where
-    nowhere : {x : Entry K} → Among x [] → ⊥
-    nowhere m = let h = among_some m in omega arith
-
 -- an answer is an acceptance, or not
 told_apart : (a : Answer) → (a ≡ answers.Accepted) ⊎ (a ≡ answers.Accepted → ⊥)
 told_apart answers.Waiting = inr (λ q. let z : ◌≡◌ {A = ℕ} 0 1 = cc in omega arith)
@@ -182,11 +149,11 @@ told_apart answers.Accepted = inl refl
 told_apart (answers.Refused f) = inr (λ q. let z : ◌≡◌ {A = ℕ} 0 1 = cc in omega arith)
 
 -- an edit more that was written, or was not
-pub wrote_more : {B K : Type 0} {w : B → Edit K → B → Type 0} {ns : List (Entry K)} {a b c : B} (n : Entry K)
-    → Wrote w a ns b → (n.answer ≡ answers.Accepted → w b n.edit c) → ((n.answer ≡ answers.Accepted → ⊥) → c ≡ b) → Wrote w a (ns ++ n ∷ []) c
-wrote_more {B} {K} {w} {ns} {a} {b} {c} n (end e) f g = elim (told_apart n.answer) [
+pub wrote_more : {B K : Type 0} {w : B → Edit K → B → Type 0} {kept : B → B → Type 0} {ns : List (Entry K)} {a b c : B} (n : Entry K)
+    → Wrote w kept a ns b → (n.answer ≡ answers.Accepted → w b n.edit c) → ((n.answer ≡ answers.Accepted → ⊥) → kept b c) → Wrote w kept a (ns ++ n ∷ []) c
+wrote_more {B} {K} {w} {kept} {ns} {a} {b} {c} n (end e) f g = elim (told_apart n.answer) [
   | inl y ↦ wrote y (subst (λ (x : B). w x n.edit c) e (f y)) (end refl)
-  | inr y ↦ idle y (end (g y ∙ e))
+  | inr y ↦ idle y (subst (λ (x : B). kept x c) e (g y)) (end refl)
 ]
 wrote_more n (wrote y h r) f g = wrote y h (wrote_more n r f g)
-wrote_more n (idle y r) f g = idle y (wrote_more n r f g)
+wrote_more n (idle y h r) f g = idle y h (wrote_more n r f g)

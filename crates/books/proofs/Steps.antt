@@ -6,6 +6,7 @@ use Rattle.books.specs.declared.edits.Edit.{Edit}
 use Rattle.books.specs.declared.edits.Edit.TheVariants.{Growth, Strike}
 use Rattle.books.specs.declared.edits.Answer.{Answer}
 use Rattle.books.specs.declared.edits.Answer.TheVariants as answers
+use Rattle.books.specs.declared.causes.Refused.{Refused}
 use Rattle.books.specs.declared.edits.Entry.{Entry}
 use Rattle.books.specs.declared.states.State.{State}
 use Rattle.books.specs.declared.states.State.TheVariants.{Blank, Struck, Standing}
@@ -341,3 +342,7 @@ module _ {K : Type 0} {k : Figures K} {size : ℕ} {h : List (Entry K)} {s s' : 
           out.kept t (λ e. let a = standing_as (s tag) may.up in not_blank (sym a.1.1.1 ∙ ap s (sym e) ∙ b)) (blank_hangs t b) ∙ b;
     };
   }
+
+-- an entry that was refused is one of these
+pub refused_step : {K : Type 0} {k : Figures K} (h : List (Entry K)) (s t : ℕ → State K) (e : Edit K) (f : Refused) → Same s t → Led k h s → Led k (h ++ record { edit = e; answer = answers.Refused f } ∷ []) t
+refused_step h s t e f same led = unaccepted_step h s t e (answers.Refused f) (λ q. let z : ◌≡◌ {A = ℕ} 0 1 = cc in omega arith) same led

@@ -1,5 +1,5 @@
 // The interface of a book.
-ghost use Rattle.std.specs.Prelude.{◌≡◌, ℕ, MatchResult, OnErr, OnOk};
+ghost use Rattle.std.specs.Prelude.{◌≡◌, ℕ, ⊤, MatchResult, OnErr, OnOk};
 ghost use Rattle.books.specs.declared.edits.Edit.{Edit as AnEdit};
 ghost use Rattle.books.specs.declared.edits.Edit.TheVariants.{Growth, Strike};
 ghost use Rattle.books.specs.declared.states.State.{State as AState};
@@ -23,11 +23,14 @@ pub trait Book {
     ghost state: { Self → ℕ → AState Self.Kind };
 
     // What is left alone from an earlier book to a later one, as the book itself says it: of the memory lent to it at least what
-    // it does not use.
-    ghost leaves: { Self → Self → Type 0 };
+    // it does not use. A book need not say it.
+    ghost leaves: { Self → Self → Type 0 } = { λ _ _. ⊤ };
 
-    // What an accepted edit writes, from the book before it to the book after it.
-    ghost writes: { Self → AnEdit Self.Kind → Self → Type 0 };
+    // What an accepted edit writes, from the book before it to the book after it. A book need not say it.
+    ghost writes: { Self → AnEdit Self.Kind → Self → Type 0 } = { λ _ _ _. ⊤ };
+
+    // What a refused edit keeps besides the size and the states. A book need not say it.
+    ghost keeps: { Self → Self → Type 0 } = { λ _ _. ⊤ };
 
     /// The size. Every book is lawful, and where nothing was done, all that it leaves alone was left alone; it says so here.
     fn size(&self) -> u32
@@ -39,7 +42,7 @@ pub trait Book {
     fn look(&self, tag: u32) -> Result<State<Self::Kind>, Refused>
         ensures { result ≡ answered tag (state self.now tag) (first_cause (look_causes (extent self.now) tag)) };
 
-    /// Grows a tag: it stands with this parent, run and drop. Refused, it leaves the book itself as it was.
+    /// Grows a tag: it stands with this parent, run and drop. Refused, it changes no state, and keeps what the book says.
     fn grow(
         &mut self,
         tag: u32,
@@ -51,15 +54,15 @@ pub trait Book {
         ensures size { extent self.new ≡ extent self.old }
         ensures states { MatchResult result (λ _. Grown (state self.old) (state self.new) tag (Standing parent run drop)) (λ _. Same (state self.old) (state self.new)) }
         ensures writes { OnOk result (writes self.old (Growth tag parent run drop) self.new) }
-        ensures refused { OnErr result (self.new ≡ self.old) }
+        ensures refused { OnErr result (keeps self.old self.new) }
         ensures leaves { (a : Self) → leaves a self.old → leaves a self.new };
 
-    /// Strikes a tag, with every tag that hangs from it. Refused, it leaves the book itself as it was.
+    /// Strikes a tag, with every tag that hangs from it. Refused, it changes no state, and keeps what the book says.
     fn strike(&mut self, tag: u32) -> Result<(), Refused>
         ensures answer { result ≡ answered tag tt (first_cause (strike_causes (extent self.old) (state self.old tag) tag)) }
         ensures size { extent self.new ≡ extent self.old }
         ensures states { MatchResult result (λ _. StruckOut (state self.old) (state self.new) tag) (λ _. Same (state self.old) (state self.new)) }
         ensures writes { OnOk result (writes self.old (Strike tag) self.new) }
-        ensures refused { OnErr result (self.new ≡ self.old) }
+        ensures refused { OnErr result (keeps self.old self.new) }
         ensures leaves { (a : Self) → leaves a self.old → leaves a self.new };
 }
