@@ -1,9 +1,7 @@
 -- The edits that the rows of a slip ask for, in each kind.
 use Rattle.std.specs.Prelude.{ℕ}
 use Rattle.lengths.specs.declared.pairs.FirstThen.{FirstThen}
-use Rattle.lengths.specs.declared.joints.Couplings.{Couplings}
-use Rattle.lengths.specs.declared.metric.Millimetres.{Millimetres}
-use Rattle.lengths.specs.Whole.{millimetres}
+use Rattle.lengths.specs.Whole.{Couplings, Millimetres, millimetres}
 use Rattle.lengths.specs.Pairs.{figure_c}
 use Rattle.books.specs.declared.edits.Edit.{Edit}
 use Rattle.books.specs.declared.edits.Edit.TheVariants as edits

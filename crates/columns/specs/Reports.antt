@@ -1,9 +1,7 @@
 -- What the report of a slip is.
 use Rattle.std.specs.Prelude.{◌≡◌, ℕ, List, ◌++◌, map, codes, Option}
 use Rattle.lengths.specs.declared.pairs.FirstThen.{FirstThen}
-use Rattle.lengths.specs.declared.joints.Couplings.{Couplings}
-use Rattle.lengths.specs.declared.metric.Millimetres.{Millimetres}
-use Rattle.lengths.specs.Whole.{mm}
+use Rattle.lengths.specs.Whole.{Couplings, Millimetres, mm}
 use Rattle.lengths.specs.Pairs.{kind_c_figures}
 use Rattle.books.specs.declared.edits.Entry.{Entry}
 use Rattle.books.specs.Edits.{Tried}

@@ -1,7 +1,11 @@
 -- The laws of the first-then kind, from the laws of its parts alone.
-use Rattle.std.specs.Prelude.{◌≡◌, ℕ, false}
+use Rattle.std.specs.Prelude.{◌≡◌, ℕ, Bool, true, false, cond, refl}
 use Rattle.std.proofs.Common.{sym, ap, ◌∙◌}
 use Rattle.std.proofs.lemmas.Bool.{and_parts, and_from, both_ways}
+use Rattle.std.specs.Cmp.{IsTotalOrder}
+use Rattle.std.specs.declared.cmp.Ordering.{Ordering}
+use Rattle.std.specs.declared.cmp.Ordering.TheVariants as orderings
+use Rattle.std.specs.Ordering.{is_lt, ordering_then, ordering_reverse}
 use Rattle.lengths.specs.Figures.{Figures, Laws, Sum, none, one, both, Compared, below, equal, above, Less}
 use Rattle.lengths.specs.declared.pairs.FirstThen.{FirstThen}
 use Rattle.lengths.specs.Pairs.{pair, first_then}
@@ -84,3 +88,19 @@ module _ {A B : Type 0} {a : Figures A} {b : Figures B} (la : Laws a) (lb : Laws
         let i = lb.shift l m n h g (seconds a b p) (seconds a b q) (seconds a b r) in
         simp (e, f, i);
   }
+
+-- the order of two parts, one after the other, by whether the first comes before, or the other way round
+then_lt : (r o : Ordering) → is_lt (ordering_then r o) ≡ cond (is_lt r) true (cond (is_lt (ordering_reverse r)) false (is_lt o))
+then_lt orderings.Less o = refl
+then_lt orderings.Equal o = refl
+then_lt orderings.Greater o = refl
+
+-- the order of pairs, first parts first, is that of the first-then kind, where the orders of the parts are those of their kinds
+module _ {A B : Type 0} (a : Figures A) (b : Figures B) (order_a : A → A → Ordering) (order_b : B → B → Ordering) (total : IsTotalOrder order_a) where
+  pub pair_ordered : ((x y : A) → is_lt (order_a x y) ≡ a.less x y) → ((x y : B) → is_lt (order_b x y) ≡ b.less x y)
+      → (x y : FirstThen A B) → is_lt (ordering_then (order_a x.first y.first) (order_b x.second y.second)) ≡ (first_then a b).less x y
+  pair_ordered f g x y =
+      then_lt (order_a x.first y.first) (order_b x.second y.second)
+      ∙ ap (λ (l : Bool). cond l true (cond (is_lt (ordering_reverse (order_a x.first y.first))) false (is_lt (order_b x.second y.second)))) (f x.first y.first)
+      ∙ ap (λ (l : Bool). cond (a.less x.first y.first) true (cond l false (is_lt (order_b x.second y.second)))) (ap is_lt (sym (total.antisymm y.first x.first)) ∙ f y.first x.first)
+      ∙ ap (λ (l : Bool). cond (a.less x.first y.first) true (cond (a.less y.first x.first) false l)) (g x.second y.second)

@@ -1,10 +1,8 @@
 -- First-then: two figures, of which the second is compared only where the first are equal.
 use Rattle.std.specs.Prelude.{ℕ, true, false, cond, ◌&&◌}
 use Rattle.lengths.specs.declared.pairs.FirstThen.{FirstThen}
-use Rattle.lengths.specs.declared.joints.Couplings.{Couplings}
-use Rattle.lengths.specs.declared.metric.Millimetres.{Millimetres}
 use Rattle.lengths.specs.Figures.{Figures}
-use Rattle.lengths.specs.Whole.{millimetres, mm, couplings, cp}
+use Rattle.lengths.specs.Whole.{Millimetres, Couplings, millimetres, mm, couplings, cp}
 
 abbrev pub pair : {A B : Type 0} → A → B → FirstThen A B
 pair a b = record { first = a; second = b }

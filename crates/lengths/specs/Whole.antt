@@ -1,7 +1,6 @@
 -- Kinds whose figures are whole numbers: a sum too large for 64 bits is the greatest number that they hold.
 use Rattle.std.specs.Prelude.{ℕ, ◌+◌, ◌-◌, ◌^◌, min, nat_le, nat_lt}
-use Rattle.lengths.specs.declared.metric.Millimetres.{Millimetres}
-use Rattle.lengths.specs.declared.joints.Couplings.{Couplings}
+use Rattle.lengths.specs.declared.count.Count.{Count}
 use Rattle.lengths.specs.Figures.{Figures}
 
 -- the greatest figure
@@ -17,16 +16,26 @@ whole of at most = record {
   entry = λ x. nat_le (at x) most;
 }
 
+-- a kind whose figures are whole numbers, and whose entries are at most `most`
+abbrev pub counts : (most : ℕ) → Figures (Count most)
+counts most = whole (λ n. record { value = n }) (λ x. x.value) most
+
 -- millimetres: an entry is at most 1,000,000
+abbrev pub Millimetres : Type 0
+Millimetres = Count 1000000
+
 abbrev pub millimetres : ℕ → Millimetres
 millimetres n = record { value = n }
 
 abbrev pub mm : Figures Millimetres
-mm = whole millimetres (λ x. x.value) 1000000
+mm = counts 1000000
 
 -- couplings: an entry is at most 9
+abbrev pub Couplings : Type 0
+Couplings = Count 9
+
 abbrev pub couplings : ℕ → Couplings
 couplings n = record { value = n }
 
 abbrev pub cp : Figures Couplings
-cp = whole couplings (λ x. x.value) 9
+cp = counts 9

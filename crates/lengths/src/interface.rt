@@ -1,9 +1,10 @@
 // The interface of a kind of length, and of one whose figures are whole numbers.
 ghost use Rattle.std.specs.Prelude.{◌≡◌, ℕ, Decides};
+ghost use Rattle.std.specs.Ordering.{is_lt};
 ghost use Rattle.lengths.specs.Figures.{Figures, Laws, Exact};
 
 /// A kind of length. A value of the type is a figure; an entry is a figure that may be a single run or drop.
-pub trait Length: Copy {
+pub trait Length: Copy + Ord {
     // What the kind says of its figures.
     ghost figures: { Figures Self };
 
@@ -17,21 +18,27 @@ pub trait Length: Copy {
 
     /// Whether this figure is less than the other.
     fn less(&self, other: &Self) -> bool
-        ensures { result ≡ figures.less self.now other.now };
-
-    /// Whether this figure may be an entry.
-    fn is_entry(&self) -> bool
-        ensures { result ≡ figures.entry self.now };
+        ensures { result ≡ figures.less self.now other.now }
+    {
+        self < other
+    }
 
     /// Whether the two are the same figure.
     fn same(&self, other: &Self) -> bool
         ensures { Decides result (self.now ≡ other.now) }
     {
-        !self.less(other) && !other.less(self)
+        self == other
     }
+
+    /// Whether this figure may be an entry.
+    fn is_entry(&self) -> bool
+        ensures { result ≡ figures.entry self.now };
 
     // The laws, which each kind shows and generic code cites.
     ghost laws: { Laws figures };
+
+    // The order of the type is that of the figures.
+    ghost ordered: { (x y : Self) → is_lt (Self.Ord.cmp x y) ≡ figures.less x y };
 }
 
 /// A kind whose figures are whole numbers.

@@ -4,14 +4,12 @@
 //! kind and knows of it only what the trait says.
 #![tactic(auto)]
 
+mod count;
 mod interface;
-mod joints;
-mod metric;
 mod pairs;
 mod sums;
 
+pub use count::{Count, Couplings, Millimetres};
 pub use interface::{Length, Whole};
-pub use joints::Couplings;
-pub use metric::Millimetres;
 pub use pairs::{FirstThen, KindC, KindM, kind_c, one_coupling_is_more};
 pub use sums::{larger, sum_of};

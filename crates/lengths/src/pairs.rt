@@ -2,14 +2,13 @@
 ghost use Rattle.std.specs.Prelude.{◌≡◌, true};
 ghost use Rattle.lengths.specs.Figures.{Less};
 ghost use Rattle.lengths.specs.Pairs.{first_then, kind_c_figures, figure_c};
-ghost use Rattle.lengths.specs.PairLaws.{pair_laws};
+ghost use Rattle.lengths.specs.PairLaws.{pair_laws, pair_ordered};
 
+use crate::count::{Couplings, Millimetres};
 use crate::interface::Length;
-use crate::joints::Couplings;
-use crate::metric::Millimetres;
 
 /// A figure in two parts: the first decides, and the second where the first parts are equal.
-#[derive(Clone, Copy, PartialEq, Eq, Debug)]
+#[derive(Clone, Copy, PartialEq, Eq, PartialOrd, Ord, Debug)]
 pub struct FirstThen<A, B> {
     pub first: A,
     pub second: B,
@@ -19,6 +18,8 @@ impl<A: Length, B: Length> Length for FirstThen<A, B> {
     ghost figures = { first_then A.Length.figures B.Length.figures };
 
     ghost laws = { pair_laws A.Length.laws B.Length.laws };
+
+    ghost ordered = { pair_ordered A.Length.figures B.Length.figures A.Ord.cmp B.Ord.cmp A.Ord.total A.Length.ordered B.Length.ordered };
 
     fn zero() -> FirstThen<A, B> {
         FirstThen {
@@ -32,16 +33,6 @@ impl<A: Length, B: Length> Length for FirstThen<A, B> {
             first: self.first.plus(other.first),
             second: self.second.plus(other.second),
         }
-    }
-
-    fn less(&self, other: &FirstThen<A, B>) -> bool {
-        if self.first.less(&other.first) {
-            return true;
-        }
-        if other.first.less(&self.first) {
-            return false;
-        }
-        self.second.less(&other.second)
     }
 
     fn is_entry(&self) -> bool {
@@ -70,5 +61,5 @@ pub fn one_coupling_is_more() -> bool
     ensures answer { result ≡ true }
     ensures more { Less kind_c_figures (figure_c 0 1000000) (figure_c 1 0) }
 {
-    kind_c(0, 1_000_000).less(&kind_c(1, 0))
+    kind_c(0, 1_000_000) < kind_c(1, 0)
 }

@@ -1,8 +1,7 @@
 -- The edits of the table done on a new book, with their answers; no book answers them otherwise.
 use Rattle.std.proofs.Common.{◌≡◌, ℕ, zero, suc, ◌≤◌, cond, eqb, List, [], ◌∷◌, map, sym, refl, ap, ◌∙◌, subst, arith}
 use Rattle.std.proofs.lemmas.Bool.{cond-true, cond-false, eq-eqb, ne_eqb}
-use Rattle.lengths.specs.declared.metric.Millimetres.{Millimetres}
-use Rattle.lengths.specs.Whole.{mm, millimetres}
+use Rattle.lengths.specs.Whole.{Millimetres, mm, millimetres}
 use Rattle.books.specs.declared.causes.Refusal.{Refusal}
 use Rattle.books.specs.declared.causes.Refusal.TheVariants.{OutOfRange, BadParent, BadRun, TagStands, TagStruck, ParentBlank, ParentStruck, TagBlank}
 use Rattle.books.specs.declared.edits.Answer.TheVariants as answers

@@ -1,7 +1,6 @@
 -- Worked cases, and that they come out so.
 use Rattle.std.specs.Prelude.{◌≡◌, ℕ, List, [], ◌∷◌, map}
-use Rattle.lengths.specs.declared.metric.Millimetres.{Millimetres}
-use Rattle.lengths.specs.Whole.{mm}
+use Rattle.lengths.specs.Whole.{Millimetres, mm}
 use Rattle.books.specs.declared.edits.Edit.{Edit}
 use Rattle.books.specs.declared.edits.Edit.TheVariants.{Growth, Strike}
 use Rattle.books.specs.declared.edits.Entry.{Entry}
