@@ -1,3 +1,2 @@
-pub mod Cut
-pub mod Texts
 pub mod Tries
+pub mod Texts

@@ -5,6 +5,8 @@ use Rattle.lengths.specs.Whole.{Couplings, Millimetres, millimetres}
 use Rattle.lengths.specs.Pairs.{figure_c}
 use Rattle.books.specs.declared.edits.Edit.{Edit}
 use Rattle.books.specs.declared.edits.Edit.TheVariants as edits
+use Rattle.books.specs.declared.edits.Entry.{Entry}
+use Rattle.books.specs.declared.edits.Answer.TheVariants as answers
 use Rattle.slips.specs.declared.rows.Letter.{Letter}
 use Rattle.slips.specs.declared.rows.Letter.TheVariants as letters
 use Rattle.slips.specs.declared.rows.Values.{Values}
@@ -25,3 +27,7 @@ edit_m v = edit_of v (millimetres v.run) (millimetres v.drop)
 -- in kind C a run is couplings, then millimetres, and a drop has no couplings
 abbrev pub edit_c : Values → Edit (FirstThen Couplings Millimetres)
 edit_c v = edit_of v (figure_c v.couplings v.run) (figure_c 0 v.drop)
+
+-- an edit without an answer yet
+abbrev pub unanswered : {K : Type 0} → Edit K → Entry K
+unanswered e = record { edit = e; answer = answers.Waiting }

@@ -1,21 +1,11 @@
--- The text of a report, line by line.
-use Rattle.std.specs.Prelude.{ℕ, ◌+◌, List, [], ◌∷◌, ◌++◌, Some, None, codes, decimal, Option}
+-- The lines of the rows, with a column for each of two books.
+use Rattle.std.specs.Prelude.{ℕ, ◌+◌, List, [], ◌∷◌, ◌++◌}
 use Rattle.books.specs.declared.edits.Entry.{Entry}
 use Rattle.books.specs.Edits.{answer_number}
-use Rattle.slips.specs.declared.faults.Fault.{Fault}
-use Rattle.slips.specs.Causes.{cause_number}
-
--- one line of a report: a line of the slip, and what it was answered in kind M and in kind C
-abbrev pub line_text : ℕ → ℕ → ℕ → List ℕ
-line_text l m c = decimal l ++ (codes "," ++ (decimal m ++ (codes "," ++ (decimal c ++ codes "\n"))))
+use Rattle.report.specs.Lines.{line_text}
 
 -- rows from the line l on, each with the numbers of its answers in two books
 abbrev pub rows_text : {M C : Type 0} → ℕ → List (Entry M) → List (Entry C) → List ℕ
 rows_text l [] cs = []
 rows_text l (m ∷ ms) [] = []
-rows_text l (m ∷ ms) (c ∷ cs) = line_text l (answer_number m.answer) (answer_number c.answer) ++ rows_text (l + 1) ms cs
-
--- a fault, with its number in both columns
-abbrev pub fault_text : Option Fault → List ℕ
-fault_text None = []
-fault_text (Some f) = line_text f.line (cause_number f.cause) (cause_number f.cause)
+rows_text l (m ∷ ms) (c ∷ cs) = line_text l (answer_number m.answer ∷ (answer_number c.answer ∷ [])) ++ rows_text (l + 1) ms cs

@@ -2,8 +2,7 @@
 ghost use Rattle.std.specs.Prelude.{◌≡◌, map, IfOk};
 ghost use Rattle.books.specs.declared.edits.Edit.{Edit as AnEdit};
 ghost use Rattle.slips.specs.declared.rows.Values.{Values as TheValues};
-ghost use Rattle.slips.specs.Seen.{values_in};
-ghost use Rattle.columns.specs.Asked.{edit_of, edit_m, edit_c};
+ghost use Rattle.columns.specs.Asked.{edit_of, edit_m, edit_c, unanswered};
 
 use books::{Answer, Edit, Entry};
 use lengths::{Couplings, FirstThen, Length, Millimetres, kind_c};
@@ -42,10 +41,10 @@ impl Asked for Millimetres {
 
     fn edit(values: Values) -> Edit<Millimetres> {
         let run = Millimetres {
-            value: values.run as u64,
+            value: u64::from(values.run),
         };
         let drop = Millimetres {
-            value: values.drop as u64,
+            value: u64::from(values.drop),
         };
         edit_of(values, run, drop)
     }
@@ -55,22 +54,20 @@ impl Asked for FirstThen<Couplings, Millimetres> {
     ghost asked = { edit_c };
 
     fn edit(values: Values) -> Edit<FirstThen<Couplings, Millimetres>> {
-        let run = kind_c(values.couplings as u64, values.run as u64);
-        let drop = kind_c(0, values.drop as u64);
+        let run = kind_c(u64::from(values.couplings), u64::from(values.run));
+        let drop = kind_c(0, u64::from(values.drop));
         edit_of(values, run, drop)
     }
 }
 
 /// The edits that rows ask for, without answers yet.
 pub(crate) fn waiting<K: Asked>(heap: Global, rows: &[Row<'_>]) -> Result<Vec<Entry<K>>, AllocError>
-    ensures { IfOk result (λ v. map (λ n. n.edit) v.items ≡ map K.Asked.asked (values_in rows.now)) }
+    ensures { IfOk result (λ v. v.items ≡ map (λ w. unanswered (K.Asked.asked w.values)) rows.now) }
 {
-    let mut noted = Vec::new(heap);
-    for row in rows {
-        noted.push(Entry {
+    rows.iter()
+        .map(|row| Entry {
             edit: K::edit(row.values),
             answer: Answer::Waiting,
-        })?;
-    }
-    Ok(noted)
+        })
+        .collect(heap)
 }

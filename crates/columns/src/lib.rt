@@ -28,8 +28,8 @@ pub fn slip_report(heap: Global, slip: &[u8]) -> Result<String, AllocError>
     try_in_table(in_m.as_mut_slice());
     try_in_log(in_c.as_mut_slice());
     let mut text = String::from_str(heap, "line,M,C\n")?;
-    put_rows(heap, &mut text, in_m.as_slice(), in_c.as_slice())?;
-    put_fault(heap, &mut text, fault)?;
+    put_rows(&mut text, in_m.as_slice(), in_c.as_slice())?;
+    put_fault(&mut text, fault)?;
     Ok(text)
 }
 
@@ -38,5 +38,5 @@ pub fn enough() -> u64
     ensures bytes { result ≡ 65537 }
     ensures enough { (input text : List ℕ) → Reported (take result input) text → Reported input text }
 {
-    65_537
+    report::enough()
 }

@@ -8,12 +8,12 @@ use Rattle.slips.specs.Format.{row_line}
 use Rattle.report.specs.Lines.{line_text, rows_text}
 
 -- each row stands on the line after the one before it
-pub rows_lines : (b l : ℕ) (rows : List Row) → map row_seen rows ≡ found_from b l (values_in rows) → flat_map (λ (w : Row). line_text w.line 0) rows ≡ rows_text l (values_in rows)
+pub rows_lines : (b l : ℕ) (rows : List Row) → map row_seen rows ≡ found_from b l (values_in rows) → flat_map (λ (w : Row). line_text w.line (0 ∷ [])) rows ≡ rows_text l (values_in rows)
 rows_lines b l [] e = refl
 rows_lines b l (r ∷ rows) e =
     let line : r.line ≡ l = ap (λ (f : Found). f.line) (head e) in
-    ap (λ (k : ℕ). line_text k 0 ++ flat_map (λ (w : Row). line_text w.line 0) rows) line
-    ∙ ap (λ (t : List ℕ). line_text l 0 ++ t) (rows_lines (b + length (row_line r.values)) (l + 1) rows (tail e))
+    ap (λ (k : ℕ). line_text k (0 ∷ []) ++ flat_map (λ (w : Row). line_text w.line (0 ∷ [])) rows) line
+    ∙ ap (λ (t : List ℕ). line_text l (0 ∷ []) ++ t) (rows_lines (b + length (row_line r.values)) (l + 1) rows (tail e))
   where
     head : {x y : Found} {xs ys : List Found} → x ∷ xs ≡ y ∷ ys → x ≡ y
     head p = cc
@@ -21,11 +21,9 @@ rows_lines b l (r ∷ rows) e =
     tail : {x y : Found} {xs ys : List Found} → x ∷ xs ≡ y ∷ ys → xs ≡ ys
     tail p = cc
 
--- one row more
-pub lines_more : (front now' before : List ℕ) (rows : List Row) (i : ℕ) (d : Row) → i < length rows
-    → before ≡ front ++ flat_map (λ (w : Row). line_text w.line 0) (take i rows) → now' ≡ before ++ line_text (get_or rows i d).line 0
-    → now' ≡ front ++ flat_map (λ (w : Row). line_text w.line 0) (take (i + 1) rows)
-lines_more front now' before rows i d h was e =
-    let row = get_or rows i d in
-    e ∙ ap (λ (t : List ℕ). t ++ line_text row.line 0) was ∙ flat_map_more (λ (w : Row). line_text w.line 0) front (take i rows) row
-    ∙ ap (λ (rs : List Row). front ++ flat_map (λ (w : Row). line_text w.line 0) rs) (sym (take_more rows i d h))
+-- texts one after another, and one more
+pub texts_more : {X : Type 0} (f : X → List ℕ) (front before after : List ℕ) (xs : List X) (i : ℕ) (d : X) → i < length xs
+    → before ≡ front ++ flat_map f (take i xs) → after ≡ before ++ f (get_or xs i d) → after ≡ front ++ flat_map f (take (i + 1) xs)
+texts_more {X} f front before after xs i d h was e =
+    e ∙ ap (λ (t : List ℕ). t ++ f (get_or xs i d)) was ∙ flat_map_more f front (take i xs) (get_or xs i d)
+    ∙ ap (λ (ys : List X). front ++ flat_map f ys) (sym (take_more xs i d h))

@@ -1,39 +1,36 @@
 //! The report: what the program prints of a slip, as text. The program itself only reads its input and prints this.
 #![tactic(auto)]
 
-ghost use Rattle.std.specs.Prelude.{◌≡◌, ℕ, List, ◌++◌, take, IfOk, string_bytes, OnOk};
+ghost use Rattle.std.specs.Prelude.{◌≡◌, ℕ, List, [], ◌∷◌, ◌++◌, take, IfOk, string_bytes, OnOk};
 ghost use Rattle.std.specs.List.{flat_map};
 ghost use Rattle.report.specs.Lines.{line_text, fault_text, Reported};
 
 use slips::{Contents, Fault, Row, read_slip};
 use std::alloc::{AllocError, Global};
 
-/// Adds one line to a report: a line of the slip and what it was answered.
-fn put_line(heap: Global, text: &mut String, line: usize, answer: u8) -> Result<(), AllocError>
-    ensures { OnOk result (string_bytes text.new ≡ string_bytes text.old ++ line_text line answer) }
-{
-    let added = format!(in heap; "{line},{answer}\n")?;
-    text.push_str(added.as_str())
-}
+mod lines;
+
+pub use lines::put_line;
 
 /// Adds a line for each row, answered 0.
-fn put_rows(heap: Global, text: &mut String, rows: &[Row<'_>]) -> Result<(), AllocError>
-    ensures { OnOk result (string_bytes text.new ≡ string_bytes text.old ++ flat_map (λ w. line_text w.line 0) rows.now) }
+fn put_rows(text: &mut String, rows: &[Row<'_>]) -> Result<(), AllocError>
+    ensures { OnOk result (string_bytes text.new ≡ string_bytes text.old ++ flat_map (λ w. line_text w.line (0 ∷ [])) rows.now) }
 {
     for row in rows {
-        put_line(heap, text, row.line, 0)?;
+        put_line(text, row.line, &[0])?;
     }
     Ok(())
 }
 
-/// Adds a line for the fault, answered by its number, where there is one.
-fn put_fault(heap: Global, text: &mut String, fault: Option<Fault>) -> Result<(), AllocError>
-    ensures { OnOk result (string_bytes text.new ≡ string_bytes text.old ++ fault_text fault) }
+/// Adds a line for the fault, answered by its number, where there is one. (Not once for any number of columns: an array of that many
+/// numbers would owe that it fits in memory.)
+fn put_fault(text: &mut String, fault: Option<Fault>) -> Result<(), AllocError>
+    ensures { OnOk result (string_bytes text.new ≡ string_bytes text.old ++ fault_text 1 fault) }
 {
-    match fault {
-        None => Ok(()),
-        Some(fault) => put_line(heap, text, fault.line, fault.cause.number()),
-    }
+    let Some(fault) = fault else {
+        return Ok(());
+    };
+    put_line(text, fault.line, &[fault.cause.number()])
 }
 
 /// The report of a slip: a heading, each row's line with 0, and where the slip has a fault, its line and number.
@@ -43,8 +40,8 @@ pub fn slip_report(heap: Global, slip: &[u8]) -> Result<String, AllocError>
 {
     let Contents { rows, fault } = read_slip(heap, slip)?;
     let mut text = String::from_str(heap, "line,slip\n")?;
-    put_rows(heap, &mut text, rows.as_slice())?;
-    put_fault(heap, &mut text, fault)?;
+    put_rows(&mut text, rows.as_slice())?;
+    put_fault(&mut text, fault)?;
     Ok(text)
 }
 

@@ -1,4 +1,4 @@
-use Rattle.std.proofs.Common.{◌≡◌, ℕ, List, ◌++◌, map, length, vec_items, string_bytes, codes, sym, ap, ◌∙◌, subst, append_assoc}
+use Rattle.std.proofs.Common.{◌≡◌, ℕ, List, ◌++◌, map, vec_items, string_bytes, codes, refl, sym, ap, ◌∙◌, subst, append_assoc}
 use Rattle.std.proofs.lemmas.List.{with_items_is}
 use Rattle.slips.specs.declared.rows.Values.{Values}
 use Rattle.slips.specs.Seen.{values_in}
@@ -7,18 +7,10 @@ use Rattle.lengths.specs.Pairs.{kind_c_figures}
 use Rattle.books.specs.Edits.{Tried}
 use Rattle.books.proofs.Courses.{tried_once}
 use Rattle.columns.specs.Asked.{edit_m, edit_c}
-use Rattle.columns.specs.Lines.{rows_text, fault_text}
-use Rattle.columns.proofs.Tries.{tried_as, tried_long, as_many}
+use Rattle.report.specs.Lines.{fault_text}
+use Rattle.columns.specs.Lines.{rows_text}
+use Rattle.columns.proofs.Tries.{tried_as, as_many}
 use Rattle.columns.proofs.slip_report.Goals as goal
-
-pub put_rows-requires : goal.put_rows-requires
-put_rows-requires c =
-    let rows = vec_items c.in_ok-rows.field-0.rows in
-    let tried_m : Tried mm 256 (map edit_m (values_in rows)) c.try_in_table.new.noted = tried_as edit_m c.try_in_table.ensures c.as_mut_slice.ensures.value c.in_ok-in_m.ensures c.as_slice.ensures.value in
-    let tried_c : Tried kind_c_figures 256 (map edit_c (values_in rows)) c.try_in_log.new.noted = tried_as edit_c c.try_in_log.ensures c.as_mut_slice-2.ensures.value c.in_ok-in_c.ensures c.as_slice-2.ensures.value in
-    let filled_m = c.as_slice-3.ensures.value ∙ with_items_is c.in_ok-in_m.in_m c.try_in_table.new.noted (as_many _ _ c.try_in_table.ensures.same ∙ c.as_mut_slice.ensures.len) in
-    let filled_c = c.as_slice-4.ensures.value ∙ with_items_is c.in_ok-in_c.in_c c.try_in_log.new.noted (as_many _ _ c.try_in_log.ensures.same ∙ c.as_mut_slice-2.ensures.len) in
-    ap length filled_c ∙ tried_long edit_c rows tried_c ∙ sym (ap length filled_m ∙ tried_long edit_m rows tried_m)
 
 pub returns : goal.returns
 returns c =
@@ -32,16 +24,16 @@ returns c =
     let filled_m : c.as_slice-3.result.now ≡ ms = c.as_slice-3.ensures.value ∙ with_items_is c.in_ok-in_m.in_m ms (as_many _ _ c.try_in_table.ensures.same ∙ c.as_mut_slice.ensures.len) in
     let filled_c : c.as_slice-4.result.now ≡ cs = c.as_slice-4.ensures.value ∙ with_items_is c.in_ok-in_c.in_c cs (as_many _ _ c.try_in_log.ensures.same ∙ c.as_mut_slice-2.ensures.len) in
     let lines : rows_text 2 c.as_slice-3.result.now c.as_slice-4.result.now ≡ rows_text 2 ms cs = λ i. rows_text 2 (filled_m i) (filled_c i) in
-    let text : string_bytes c.put_fault.new.text ≡ codes "line,M,C\n" ++ (rows_text 2 ms cs ++ fault_text fault) = c.in_ok-put_fault.ensures
-    ∙ ap (λ (t : List ℕ). t ++ fault_text fault)
+    let text : string_bytes c.put_fault.new.text ≡ codes "line,M,C\n" ++ (rows_text 2 ms cs ++ fault_text 2 fault) = c.in_ok-put_fault.ensures
+    ∙ ap (λ (t : List ℕ). t ++ fault_text 2 fault)
     (c.in_ok-put_rows.ensures ∙ ap (λ (t : List ℕ). t ++ rows_text 2 c.as_slice-3.result.now c.as_slice-4.result.now) c.in_ok-text.ensures.ok
     ∙ ap (λ (t : List ℕ). codes "line,M,C\n" ++ t) lines)
-    ∙ append_assoc (codes "line,M,C\n") (rows_text 2 ms cs) (fault_text fault) in
+    ∙ append_assoc (codes "line,M,C\n") (rows_text 2 ms cs) (fault_text 2 fault) in
     record {
-      answer = record { rows = values_in rows; fault = fault; holds = told.holds; in_m = ms; in_c = cs; tried_m = tried_m; tried_c = tried_c; lines = text };
+      answer = record { rows = values_in rows; fault = fault; body = rows_text 2 ms cs; holds = told.holds; told = record { in_m = ms; in_c = cs; tried_m = tried_m; tried_c = tried_c; lines = refl }; lines = text };
       only = λ other h.
           let same = told.only h.rows h.fault h.holds in
-          let m = tried_once tried_m (subst (λ (vs : List Values). Tried mm 256 (map edit_m vs) h.in_m) same.0 h.tried_m) in
-          let k = tried_once tried_c (subst (λ (vs : List Values). Tried kind_c_figures 256 (map edit_c vs) h.in_c) same.0 h.tried_c) in
-          h.lines ∙ (λ i. codes "line,M,C\n" ++ (rows_text 2 (m i) (k i) ++ fault_text (same.1 i))) ∙ sym text;
+          let m = tried_once tried_m (subst (λ (vs : List Values). Tried mm 256 (map edit_m vs) h.told.in_m) same.0 h.told.tried_m) in
+          let k = tried_once tried_c (subst (λ (vs : List Values). Tried kind_c_figures 256 (map edit_c vs) h.told.in_c) same.0 h.told.tried_c) in
+          h.lines ∙ ap (λ (b : List ℕ). codes "line,M,C\n" ++ (b ++ fault_text 2 h.fault)) h.told.lines ∙ (λ i. codes "line,M,C\n" ++ (rows_text 2 (m i) (k i) ++ fault_text 2 (same.1 i))) ∙ sym text;
     }
