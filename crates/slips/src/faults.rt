@@ -3,16 +3,17 @@ ghost use Rattle.std.specs.Prelude.{◌≡◌, ◌+◌, ◌^◌, ◌<◌, IfErr}
 ghost use Rattle.slips.specs.Causes.{cause_number, write_number, slip_fault};
 ghost use Rattle.slips.specs.Inner.{in_field, on_line};
 
-/// Why a slip or a row is refused. Of itself a cause knows no place: digits answer it bare.
+/// Why a slip or a row is refused, by its number in the table of refusals. Of itself a cause knows no place: digits
+/// answer it bare.
 #[derive(Clone, Copy, PartialEq, Eq, Debug)]
 pub enum Cause {
-    TooLong,
-    NotNames,
-    NotSixFields,
-    BadLetter,
-    BadNumber,
-    NotZero,
-    Unended,
+    TooLong = 19,
+    NotNames = 20,
+    NotSixFields = 21,
+    BadLetter = 22,
+    BadNumber = 23,
+    NotZero = 24,
+    Unended = 25,
 }
 
 impl Cause {
@@ -20,15 +21,7 @@ impl Cause {
     pub fn number(self) -> u8
         ensures { result ≡ cause_number self }
     {
-        match self {
-            Cause::TooLong => 19,
-            Cause::NotNames => 20,
-            Cause::NotSixFields => 21,
-            Cause::BadLetter => 22,
-            Cause::BadNumber => 23,
-            Cause::NotZero => 24,
-            Cause::Unended => 25,
-        }
+        self as u8
     }
 }
 

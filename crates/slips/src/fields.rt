@@ -14,7 +14,7 @@ ghost use Rattle.slips.specs.Inner.{bytes_of, parts_seen, place_at, shifted, cou
 use crate::digits::number;
 use crate::faults::{Cause, Fault, PutInField, RowFault, on_line};
 use crate::lines::{count_of, cut};
-use crate::rows::{Field, Letter, Row, Values, letter_from};
+use crate::rows::{Field, Letter, Row, Values};
 
 /// The five fields of a row after its letter. Until the row is handed out, their places count from the beginning of the
 /// line.
@@ -34,7 +34,7 @@ fn letter_of(line: &[u8]) -> Result<(Letter, &[u8]), Cause>
     let [letter, b',', rest @ ..] = line else {
         return Err(Cause::BadLetter);
     };
-    let letter = letter_from(char::from(*letter))?;
+    let letter = Letter::try_from(char::from(*letter))?;
     Ok((letter, rest))
 }
 

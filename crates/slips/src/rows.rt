@@ -6,11 +6,11 @@ ghost use Rattle.slips.specs.Format.{letter_byte, numbers};
 
 use crate::faults::Cause;
 
-/// The letter of a row, and what the row asks for.
+/// The letter of a row, by the byte that stands for it in a slip, and what the row asks for.
 #[derive(Clone, Copy, PartialEq, Eq, Debug)]
 pub enum Letter {
-    Growth,
-    Strike,
+    Growth = b'G' as isize,
+    Strike = b'S' as isize,
 }
 
 /// What a row says: its letter and its five numbers.
@@ -44,26 +44,25 @@ pub struct Row<'a> {
     pub values: Values,
 }
 
-/// What a letter asks for.
-pub(crate) fn letter_from(letter: char) -> Result<Letter, Cause>
-    ensures { MatchResult result (λ l. letter ≡ letter_byte l) (λ e. (e ≡ BadLetter) × ((l : ALetter) → letter ≢ letter_byte l)) }
-{
-    match letter {
-        'G' => Ok(Letter::Growth),
-        'S' => Ok(Letter::Strike),
-        _ => Err(Cause::BadLetter),
+impl TryFrom<char> for Letter {
+    type Error = Cause;
+
+    ghost try_from_gives = { λ c r. MatchResult r (λ l. c ≡ letter_byte l) (λ e. (e ≡ BadLetter) × ((l : ALetter) → c ≢ letter_byte l)) };
+
+    fn try_from(letter: char) -> Result<Letter, Cause> {
+        match letter {
+            'G' => Ok(Letter::Growth),
+            'S' => Ok(Letter::Strike),
+            _ => Err(Cause::BadLetter),
+        }
     }
 }
 
-impl Letter {
-    /// The byte that stands for this letter in a slip.
-    pub fn byte(self) -> u8
-        ensures { result ≡ letter_byte self }
-    {
-        match self {
-            Letter::Growth => b'G',
-            Letter::Strike => b'S',
-        }
+impl From<Letter> for u8 {
+    ghost from_gives = { λ letter byte. byte ≡ letter_byte letter };
+
+    fn from(letter: Letter) -> u8 {
+        letter as u8
     }
 }
 

@@ -9,7 +9,7 @@ ghost use Rattle.slips.specs.Seen.{row_seen, Handed};
 use crate::digits::MOST;
 use crate::faults::{Cause, WriteFault};
 use crate::fields::nonzero_after_tag;
-use crate::rows::{Letter, Row, letter_from};
+use crate::rows::{Letter, Row};
 
 /// The first of `numbers` above the greatest, by its index.
 fn too_large(numbers: &[u32]) -> Option<usize>
@@ -28,7 +28,7 @@ fn checked(letter: char, numbers: &[u32]) -> Result<Letter, WriteFault>
     requires { length numbers.now ≡ 5 }
     ensures { MatchResult result (λ l. (letter ≡ letter_byte l) × AllByRecursion (λ n. n ≤ most) numbers.now × (l ≡ Strike → AllByRecursion (λ n. n ≡ 0) (drop 1 numbers.now))) (λ f. BadRow letter numbers.now f) }
 {
-    let letter = match letter_from(letter) {
+    let letter = match Letter::try_from(letter) {
         Ok(letter) => letter,
         Err(cause) => return Err(WriteFault::InField(cause, 1)),
     };
@@ -115,7 +115,7 @@ pub fn write_row(letter: char, numbers: [u32; 5], out: &mut [u8]) -> Result<usiz
     if out.len() < len {
         return Err(WriteFault::ShortBuffer);
     }
-    out[0] = letter.byte();
+    out[0] = u8::from(letter);
     let k = put_fields(&mut out[1..], &numbers) + 1;
     out[k] = b'\n';
     Ok(len)
@@ -128,7 +128,7 @@ impl Row<'_> {
         ensures answer { MatchResult result (λ n. Written (letter_byte self.now.values.letter) (numbers self.now.values) out.old out.new n) (λ f. Unwritten (letter_byte self.now.values.letter) (numbers self.now.values) (length out.old) f × (out.new ≡ out.old)) }
         ensures same { (slip : List ℕ) → Handed slip (row_seen self.now) → SameBytes self.now slip result out.new }
     {
-        let letter = char::from(self.values.letter.byte());
+        let letter = char::from(u8::from(self.values.letter));
         write_row(letter, self.values.numbers(), out)
     }
 }

@@ -31,9 +31,9 @@ returns c =
     let proper = row_proper l ns five h.1 h.2 in
     let rest = drop (c.fields_len-len.result + 2) c.args.out.now in
     let long : c.fields_len-len.result + 2 ≡ length (row_line v) = omega (arith, row_length l ns five, c.fields_len-len.ensures.value) in
-    let bytes = row_put c.byte.result c.put_fields-k.result c.fields_len-len.result ns c.args.out.now c.put_fields-k.new.out
+    let bytes = row_put c.from.result c.put_fields-k.result c.fields_len-len.result ns c.args.out.now c.put_fields-k.new.out
     c.put_fields-k.ensures.value c.fields_len-len.ensures.value c.if-out-len.false c.put_fields-k.ensures.after
-    ∙ ap (λ (b : ℕ). ((b ∷ fields_text ns) ++ 10 ∷ []) ++ rest) c.byte.ensures
+    ∙ ap (λ (b : ℕ). ((b ∷ fields_text ns) ++ 10 ∷ []) ++ rest) c.from.ensures
     ∙ ap (λ (t : List ℕ). t ++ rest) (sym (row_bytes l ns five)) in
     record {
       answer = record { row = v; given = given; proper = proper; room = c.if-out-len.false; long = long; bytes = bytes };
