@@ -1,5 +1,5 @@
 -- What the functions that the crate keeps to itself say to each other. No promise to a user stands here.
-use Rattle.std.specs.Prelude.{◌≡◌, ℕ, suc, ◌+◌, ◌-◌, ◌*◌, ◌≤◌, cond, List, [], ◌∷◌, length, Some, None, Ok, Err, Option, Result, ◌==◌}
+use Rattle.std.specs.Prelude.{◌≡◌, ℕ, ◌+◌, ◌≤◌, cond, List, [], ◌∷◌, length, Some, None, Ok, Err, Option, Result, ◌==◌, count_by}
 use Rattle.slips.specs.declared.faults.Cause.{Cause}
 use Rattle.slips.specs.declared.faults.Fault.{Fault}
 use Rattle.slips.specs.declared.faults.RowFault.{RowFault}
@@ -12,8 +12,7 @@ use Rattle.slips.specs.Seen.{Answer, a_row, a_fault, the_end, row_seen}
 
 -- how often the byte b stands in bs
 abbrev pub count : ℕ → List ℕ → ℕ
-count b [] = 0
-count b (c ∷ cs) = cond (c == b) (suc (count b cs)) (count b cs)
+count b bs = count_by (λ c. c == b) bs
 
 -- a cause gets its field; a fault of a row gets its line
 abbrev pub in_field : {T : Type 0} → Result T Cause → ℕ → ℕ → Result T RowFault
@@ -23,11 +22,6 @@ in_field (Err c) f i = Err (row_fault c f i)
 abbrev pub on_line : {T : Type 0} → Result T RowFault → ℕ → ℕ → Result T Fault
 on_line (Ok x) l b = Ok x
 on_line (Err f) l b = Err (placed f l b)
-
--- the number that digits write after the digits of n
-abbrev pub digits_after : ℕ → List ℕ → ℕ
-digits_after n [] = n
-digits_after n (c ∷ cs) = digits_after (n * 10 + (c - 48)) cs
 
 -- the same bytes, so many bytes further on
 abbrev pub shifted : ℕ → Text → Text

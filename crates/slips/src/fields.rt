@@ -97,12 +97,11 @@ fn number_in(field: Field<'_>, n: usize) -> Result<u32, RowFault>
 pub(crate) fn nonzero_after_tag(numbers: &[u32]) -> Option<usize>
     ensures { MatchOption result (AllByRecursion (λ n. n ≡ 0) (drop 1 numbers.now)) (λ k. FirstNonzero numbers.now k) }
 {
-    for k in 1..numbers.len() {
-        if numbers[k] != 0 {
-            return Some(k);
-        }
-    }
-    None
+    let [_, after @ ..] = numbers else {
+        return None;
+    };
+    let k = after.iter().position(|n| *n != 0)?;
+    Some(k + 1)
 }
 
 impl Parts<'_> {

@@ -15,12 +15,7 @@ use crate::rows::{Letter, Row};
 fn too_large(numbers: &[u32]) -> Option<usize>
     ensures { MatchOption result (AllByRecursion (λ n. n ≤ most) numbers.now) (λ k. (k < length numbers.now) × ((j : ℕ) → j < k → slice_index numbers.now j ≤ most) × (most < slice_index numbers.now k)) }
 {
-    for (k, n) in numbers.iter().enumerate() {
-        if *n > MOST {
-            return Some(k);
-        }
-    }
-    None
+    numbers.iter().position(|n| *n > MOST)
 }
 
 /// The letter of a row that a slip may hold, or why it may not.
