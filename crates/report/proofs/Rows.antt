@@ -1,7 +1,6 @@
 -- The lines of the rows, one after another.
-use Rattle.std.proofs.Common.{◌≡◌, ℕ, ◌+◌, ◌<◌, List, [], ◌∷◌, ◌++◌, map, length, get_or, take, sym, refl, ap, ◌∙◌}
+use Rattle.std.proofs.Common.{◌≡◌, ℕ, ◌+◌, List, [], ◌∷◌, ◌++◌, map, length, refl, ap, ◌∙◌}
 use Rattle.std.specs.List.{flat_map}
-use Rattle.std.proofs.lemmas.List.{take_more, flat_map_more}
 use Rattle.slips.specs.declared.rows.Row.{Row}
 use Rattle.slips.specs.Seen.{Found, row_seen, found_from, values_in}
 use Rattle.slips.specs.Format.{row_line}
@@ -20,12 +19,3 @@ rows_lines b l (r ∷ rows) e =
 
     tail : {x y : Found} {xs ys : List Found} → x ∷ xs ≡ y ∷ ys → xs ≡ ys
     tail p = cc
-
--- one row more
-pub lines_more : (front now' before : List ℕ) (rows : List Row) (i : ℕ) (d : Row) → i < length rows
-    → before ≡ front ++ flat_map (λ (w : Row). line_text w.line 0) (take i rows) → now' ≡ before ++ line_text (get_or rows i d).line 0
-    → now' ≡ front ++ flat_map (λ (w : Row). line_text w.line 0) (take (i + 1) rows)
-lines_more front now' before rows i d h was e =
-    let row = get_or rows i d in
-    e ∙ ap (λ (t : List ℕ). t ++ line_text row.line 0) was ∙ flat_map_more (λ (w : Row). line_text w.line 0) front (take i rows) row
-    ∙ ap (λ (rs : List Row). front ++ flat_map (λ (w : Row). line_text w.line 0) rs) (sym (take_more rows i d h))

@@ -9,30 +9,29 @@ use slips::{Contents, Fault, Row, read_slip};
 use std::alloc::{AllocError, Global};
 
 /// Adds one line to a report: a line of the slip and what it was answered.
-fn put_line(heap: Global, text: &mut String, line: usize, answer: u8) -> Result<(), AllocError>
+fn put_line(text: &mut String, line: usize, answer: u8) -> Result<(), AllocError>
     ensures { OnOk result (string_bytes text.new ≡ string_bytes text.old ++ line_text line answer) }
 {
-    let added = format!(in heap; "{line},{answer}\n")?;
-    text.push_str(added.as_str())
+    writeln!(text, "{line},{answer}")
 }
 
 /// Adds a line for each row, answered 0.
-fn put_rows(heap: Global, text: &mut String, rows: &[Row<'_>]) -> Result<(), AllocError>
+fn put_rows(text: &mut String, rows: &[Row<'_>]) -> Result<(), AllocError>
     ensures { OnOk result (string_bytes text.new ≡ string_bytes text.old ++ flat_map (λ w. line_text w.line 0) rows.now) }
 {
     for row in rows {
-        put_line(heap, text, row.line, 0)?;
+        put_line(text, row.line, 0)?;
     }
     Ok(())
 }
 
 /// Adds a line for the fault, answered by its number, where there is one.
-fn put_fault(heap: Global, text: &mut String, fault: Option<Fault>) -> Result<(), AllocError>
+fn put_fault(text: &mut String, fault: Option<Fault>) -> Result<(), AllocError>
     ensures { OnOk result (string_bytes text.new ≡ string_bytes text.old ++ fault_text fault) }
 {
     match fault {
         None => Ok(()),
-        Some(fault) => put_line(heap, text, fault.line, fault.cause.number()),
+        Some(fault) => put_line(text, fault.line, fault.cause.number()),
     }
 }
 
@@ -43,8 +42,8 @@ pub fn slip_report(heap: Global, slip: &[u8]) -> Result<String, AllocError>
 {
     let Contents { rows, fault } = read_slip(heap, slip)?;
     let mut text = String::from_str(heap, "line,slip\n")?;
-    put_rows(heap, &mut text, rows.as_slice())?;
-    put_fault(heap, &mut text, fault)?;
+    put_rows(&mut text, &rows)?;
+    put_fault(&mut text, fault)?;
     Ok(text)
 }
 
