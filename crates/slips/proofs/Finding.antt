@@ -1,16 +1,13 @@
 -- A row as it is handed out: its fields where the slip has them.
-use Rattle.std.proofs.Common.{◌≡◌, ℕ, ◌+◌, List, [], ◌∷◌, ◌++◌, map, length, take, drop, Ok, Err, decimal, Result, sym, refl, ap, ◌∙◌, subst, arith}
+use Rattle.std.proofs.Common.{◌≡◌, ℕ, ◌+◌, List, [], ◌∷◌, ◌++◌, map, length, take, drop, Ok, Err, decimal, Result, sym, refl, ap, ◌∙◌, subst, arith, MatchResult, IsErrAnd}
 use Rattle.std.specs.List.{AllByRecursion}
 use Rattle.std.proofs.lemmas.List.Prefix.{front_rest}
 use Rattle.std.proofs.lemmas.List.{append_assoc, take_at, drop_at, drop-drop}
-use Rattle.slips.specs.declared.faults.Cause.{Cause}
-use Rattle.slips.specs.declared.faults.RowFault.{RowFault}
 use Rattle.slips.specs.declared.rows.Values.{Values}
 use Rattle.slips.specs.Format.{letter_byte, numbers, Proper, commaed, row_text, row_line, names_line}
 use Rattle.slips.specs.Layout.{Text, text, Part, laid}
 use Rattle.slips.specs.Seen.{found, Answer, Handed, HandsOut, RowsAnswer, ends, faulty, row, Answers, too_long, no_names, first, later}
-use Rattle.slips.specs.Causes.{row_fault}
-use Rattle.slips.specs.Inner.{in_field, shifted, on_line}
+use Rattle.slips.specs.Inner.{shifted}
 use Rattle.slips.proofs.Layouts.{laid_moved}
 
 -- from the fields' places in the line to those in the slip
@@ -23,15 +20,11 @@ row_found b l v line front ps ts e f g h =
     ap (λ (x : List ℕ). record { line = l; byte = b; fields = text x b ∷ ts; values = v }) letter
     ∙ ap (λ (us : List Text). record { line = l; byte = b; fields = text (letter_byte v.letter ∷ []) b ∷ us; values = v }) rest
 
--- what was read without a fault was read so before it got its line
-pub on_line_ok : {T : Type 0} (r : Result T RowFault) (x : T) (l b : ℕ) → Ok x ≡ on_line r l b → r ≡ Ok x
-on_line_ok {T} (Ok y) x l b e = let h : y ≡ x = cc in ap (λ (t : T). Ok t) h
-on_line_ok (Err f) x l b e = let z : ◌≡◌ {A = ℕ} 0 1 = cc in absurd (omega arith)
-
--- a cause that got its field
-pub in_field_err : {T : Type 0} (r : Result T Cause) (f : RowFault) (k i : ℕ) → Err f ≡ in_field r k i → (c : Cause) × (r ≡ Err c) × (f ≡ row_fault c k i)
-in_field_err (Ok x) f k i e = let z : ◌≡◌ {A = ℕ} 0 1 = cc in absurd (omega arith)
-in_field_err (Err c) f k i e = let h : f ≡ row_fault c k i = cc in (c, refl, h)
+-- an error that was mapped, and what was so of it before
+pub mapped_err : {T E D : Type 0} (r : Result T E) (s : Result T D) (d : D) → s ≡ Err d → (P : T → Type 0) (Q : E → Type 0) (R : E → D → Type 0)
+    → MatchResult r (λ x. s ≡ Ok x) (λ e. IsErrAnd s (R e)) → MatchResult r P Q → (e : E) × Q e × R e d
+mapped_err {T} {E} {D} (Ok x) s d was P Q R h told = let z : ◌≡◌ {A = ℕ} 0 1 = cc in absurd (omega arith)
+mapped_err {T} {E} {D} (Err e) s d was P Q R h told = (e, told, subst (λ (t : Result T D). IsErrAnd t (R e)) was h)
 
 -- fields that are laid where the slip has their texts are parts of it
 laid_parts : (slip : List ℕ) (i : ℕ) (f : List ℕ) (fs : List (List ℕ)) (rest : List ℕ) → drop i slip ≡ f ++ (commaed fs ++ rest) → AllByRecursion (Part slip) (laid i (f ∷ fs))

@@ -5,6 +5,7 @@ pub mod Faulty
 pub mod Finding
 pub mod Layouts
 pub mod Marks
+pub mod Numbers
 pub mod Progress
 pub mod Puts
 pub mod Single

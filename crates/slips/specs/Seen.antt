@@ -1,13 +1,11 @@
 -- What a reader hands out, as its bytes and places say it, and what reading answers.
-use Rattle.std.specs.Prelude.{◌≡◌, ℕ, ◌+◌, ◌<◌, ◌≤◌, List, [], ◌∷◌, ◌++◌, map, length, take, drop, Some, None, decimal, ◌≢◌}
+use Rattle.std.specs.Prelude.{◌≡◌, ℕ, ◌+◌, ◌<◌, ◌≤◌, List, [], ◌∷◌, ◌++◌, map, length, take, drop, Some, None, Ok, Err, decimal, Option, Result, ◌≢◌}
 use Rattle.std.specs.List.{AllByRecursion}
 use Rattle.slips.specs.declared.faults.Cause.{Cause}
 use Rattle.slips.specs.declared.faults.Cause.TheVariants.{TooLong}
 use Rattle.slips.specs.declared.faults.Fault.{Fault}
 use Rattle.slips.specs.declared.rows.Values.{Values}
 use Rattle.slips.specs.declared.rows.Row.{Row}
-use Rattle.slips.specs.declared.walk.Reading.{Reading}
-use Rattle.slips.specs.declared.walk.Reading.TheVariants as reading
 use Rattle.slips.specs.Causes.{slip_fault}
 use Rattle.slips.specs.Format.{most_bytes, letter_byte, numbers, Proper, row_line, names_line}
 use Rattle.slips.specs.Layout.{Text, field_seen, Part, laid}
@@ -47,10 +45,10 @@ pub data Answer : Type 0 where
   a_fault : Fault → Answer
   the_end : Answer
 
-abbrev pub seen : Reading → Answer
-seen (reading.Row r) = a_row (row_seen r)
-seen (reading.Fault f) = a_fault f
-seen reading.End = the_end
+abbrev pub seen : Result (Option Row) Fault → Answer
+seen (Ok (Some r)) = a_row (row_seen r)
+seen (Ok None) = the_end
+seen (Err f) = a_fault f
 
 -- what is so of a row handed out: it is proper, the slip has its line, as it is written, from the row's first byte on, and
 -- its fields are parts of the slip

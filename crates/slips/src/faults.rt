@@ -1,18 +1,18 @@
 // Faults: the causes by which a slip is refused, and the three layers through which one rises.
-ghost use Rattle.std.specs.Prelude.{◌≡◌, ◌+◌, ◌^◌, ◌<◌, IfErr};
-ghost use Rattle.slips.specs.Causes.{cause_number, write_number, slip_fault};
-ghost use Rattle.slips.specs.Inner.{in_field, on_line};
+ghost use Rattle.std.specs.Prelude.{◌≡◌, ◌+◌, ◌^◌, ◌<◌};
+ghost use Rattle.slips.specs.Causes.{cause_number, write_number, row_fault, slip_fault, placed};
 
-/// Why a slip or a row is refused. Of itself a cause knows no place: digits answer it bare.
+/// Why a slip or a row is refused, by its number in the table of refusals. Of itself a cause knows no place: digits
+/// answer it bare.
 #[derive(Clone, Copy, PartialEq, Eq, Debug)]
 pub enum Cause {
-    TooLong,
-    NotNames,
-    NotSixFields,
-    BadLetter,
-    BadNumber,
-    NotZero,
-    Unended,
+    TooLong = 19,
+    NotNames = 20,
+    NotSixFields = 21,
+    BadLetter = 22,
+    BadNumber = 23,
+    NotZero = 24,
+    Unended = 25,
 }
 
 impl Cause {
@@ -20,14 +20,17 @@ impl Cause {
     pub fn number(self) -> u8
         ensures { result ≡ cause_number self }
     {
-        match self {
-            Cause::TooLong => 19,
-            Cause::NotNames => 20,
-            Cause::NotSixFields => 21,
-            Cause::BadLetter => 22,
-            Cause::BadNumber => 23,
-            Cause::NotZero => 24,
-            Cause::Unended => 25,
+        self as u8
+    }
+
+    /// This cause with its field, which begins at byte `at` of the line.
+    pub(crate) fn in_field(self, field: usize, at: usize) -> RowFault
+        ensures { result ≡ row_fault self field at }
+    {
+        RowFault {
+            cause: self,
+            field,
+            at,
         }
     }
 }
@@ -38,6 +41,21 @@ pub(crate) struct RowFault {
     pub cause: Cause,
     pub field: usize,
     pub at: usize,
+}
+
+impl RowFault {
+    /// This fault with its line, which begins at `byte`.
+    pub(crate) fn on_line(self, line: usize, byte: usize) -> Fault
+        requires { byte + self.at < 2 ^ 64 }
+        ensures { result ≡ placed self line byte }
+    {
+        Fault {
+            cause: self.cause,
+            line,
+            field: self.field,
+            byte: byte + self.at,
+        }
+    }
 }
 
 /// A cause in a slip: the line, from 1, the field, and the byte of the slip where the field or the line begins.
@@ -79,41 +97,5 @@ impl WriteFault {
             WriteFault::InField(cause, _) => cause.number(),
             WriteFault::ShortBuffer => 12,
         }
-    }
-}
-
-/// Adds to a cause the field where it stands.
-pub(crate) trait PutInField {
-    type Out;
-
-    fn in_field(self, field: usize, at: usize) -> Self::Out;
-}
-
-impl<T> PutInField for Result<T, Cause> {
-    type Out = Result<T, RowFault>;
-
-    fn in_field(self, field: usize, at: usize) -> Result<T, RowFault>
-        ensures { result ≡ in_field self field at }
-    {
-        match self {
-            Ok(x) => Ok(x),
-            Err(cause) => Err(RowFault { cause, field, at }),
-        }
-    }
-}
-
-/// Adds to a row's fault its line, which begins at `byte`.
-pub(crate) fn on_line<T>(r: Result<T, RowFault>, line: usize, byte: usize) -> Result<T, Fault>
-    requires { IfErr r (λ f. byte + f.at < 2 ^ 64) }
-    ensures { result ≡ on_line r line byte }
-{
-    match r {
-        Ok(x) => Ok(x),
-        Err(f) => Err(Fault {
-            cause: f.cause,
-            line,
-            field: f.field,
-            byte: byte + f.at,
-        }),
     }
 }

@@ -9,23 +9,12 @@ ghost use Rattle.slips.specs.Format.{most, letter_byte, numbers, Proper, commaed
 ghost use Rattle.slips.specs.Rules.{Free, Number, IsNumber, FirstNonzero, NumberFault, LineFault};
 ghost use Rattle.slips.specs.Layout.{laid, field_seen};
 ghost use Rattle.slips.specs.Seen.{row_seen, found};
-ghost use Rattle.slips.specs.Inner.{bytes_of, parts_seen, place_at, shifted, count};
+ghost use Rattle.slips.specs.Inner.{bytes_of, parts_seen, shifted, count};
 
 use crate::digits::number;
-use crate::faults::{Cause, Fault, PutInField, RowFault, on_line};
+use crate::faults::{Cause, Fault, RowFault};
 use crate::lines::{count_of, cut};
-use crate::rows::{Field, Letter, Row, Values, letter_from};
-
-/// The five fields of a row after its letter. Until the row is handed out, their places count from the beginning of the
-/// line.
-#[derive(Clone, Copy)]
-pub(crate) struct Parts<'a> {
-    pub tag: Field<'a>,
-    pub parent: Field<'a>,
-    pub couplings: Field<'a>,
-    pub run: Field<'a>,
-    pub drop: Field<'a>,
-}
+use crate::rows::{Field, Letter, Row, Values};
 
 /// What the letter of a line says, and what stands after its comma.
 fn letter_of(line: &[u8]) -> Result<(Letter, &[u8]), Cause>
@@ -34,7 +23,7 @@ fn letter_of(line: &[u8]) -> Result<(Letter, &[u8]), Cause>
     let [letter, b',', rest @ ..] = line else {
         return Err(Cause::BadLetter);
     };
-    let letter = letter_from(char::from(*letter))?;
+    let letter = Letter::try_from(char::from(*letter))?;
     Ok((letter, rest))
 }
 
@@ -62,7 +51,7 @@ fn next_field<'a>(rest: Field<'a>) -> (Field<'a>, Field<'a>)
 }
 
 /// The five fields of `rest`, what follows the letter and its comma, with their places in the line.
-fn split(rest: &[u8]) -> Parts<'_>
+fn split(rest: &[u8]) -> [Field<'_>; 5]
     requires commas { count 44 rest.now ≡ 4 }
     requires fits { 2 + length rest.now < 2 ^ 64 }
     ensures text { 44 ∷ rest.now ≡ commaed (bytes_of result) }
@@ -77,100 +66,63 @@ fn split(rest: &[u8]) -> Parts<'_>
     let (parent, rest) = next_field(rest);
     let (couplings, rest) = next_field(rest);
     let (run, drop) = next_field(rest);
-    Parts {
-        tag,
-        parent,
-        couplings,
-        run,
-        drop,
-    }
+    [tag, parent, couplings, run, drop]
 }
 
 /// The number that the field `n` of a row writes.
 fn number_in(field: Field<'_>, n: usize) -> Result<u32, RowFault>
     ensures { MatchResult result (λ v. Number field.entry.bytes.now v) (λ f. (f ≡ row_fault BadNumber n field.entry.place) × (IsNumber field.entry.bytes.now → ⊥)) }
 {
-    number(field.bytes).in_field(n, field.place)
+    number(field.bytes).map_err(|cause| cause.in_field(n, field.place))
 }
 
 /// The first of `numbers` after the tag that is not 0, by its index.
 pub(crate) fn nonzero_after_tag(numbers: &[u32]) -> Option<usize>
     ensures { MatchOption result (AllByRecursion (λ n. n ≡ 0) (drop 1 numbers.now)) (λ k. FirstNonzero numbers.now k) }
 {
-    for k in 1..numbers.len() {
-        if numbers[k] != 0 {
-            return Some(k);
-        }
-    }
-    None
-}
-
-impl Parts<'_> {
-    /// Where the field of index `k` begins; past the last, where the last does.
-    fn place_of(&self, k: usize) -> usize
-        ensures { result ≡ place_at self.now k }
-    {
-        match k {
-            0 => self.tag.place,
-            1 => self.parent.place,
-            2 => self.couplings.place,
-            3 => self.run.place,
-            _ => self.drop.place,
-        }
-    }
-}
-
-/// Refuses a strike with a number after the tag that is not 0.
-fn check_strike(parts: &Parts<'_>, values: Values) -> Result<(), RowFault>
-    requires places { parts_seen parts.now ≡ laid 2 (bytes_of parts.now) }
-    requires fields { bytes_of parts.now ≡ map decimal (numbers values) }
-    requires small { AllByRecursion (λ n. n ≤ most) (numbers values) }
-    ensures { MatchResult result (λ _. Proper values) (λ f. NumberFault values.letter (bytes_of parts.now) f) }
-{
-    let Letter::Strike = values.letter else {
-        return Ok(());
+    let [_, after @ ..] = numbers else {
+        return None;
     };
-    match nonzero_after_tag(&values.numbers()) {
-        None => Ok(()),
-        Some(k) => Err(RowFault {
-            cause: Cause::NotZero,
-            field: k + 2,
-            at: parts.place_of(k),
-        }),
-    }
+    let k = after.iter().position(|n| *n != 0)?;
+    Some(k + 1)
 }
 
-/// The values of a row with this letter and these fields.
-fn values_of(letter: Letter, parts: &Parts<'_>) -> Result<Values, RowFault>
-    requires places { parts_seen parts.now ≡ laid 2 (bytes_of parts.now) }
+/// The numbers that the fields of a row after its letter write.
+fn numbers_of(parts: &[Field<'_>; 5]) -> Result<[u32; 5], RowFault>
+    requires { parts_seen parts.now ≡ laid 2 (bytes_of parts.now) }
+    ensures { MatchResult result (λ ns. AllByRecursion (λ n. n ≤ most) ns × (bytes_of parts.now ≡ map decimal ns)) (λ f. (l : ALetter) → NumberFault l (bytes_of parts.now) f) }
+{
+    let mut numbers = [0; 5];
+    for (k, field) in parts.iter().enumerate() {
+        numbers[k] = number_in(*field, k + 2)?;
+    }
+    Ok(numbers)
+}
+
+/// The values of a row with this letter and these fields. A strike with a number after the tag that is not 0 is refused.
+fn values_of(letter: Letter, parts: &[Field<'_>; 5]) -> Result<Values, RowFault>
+    requires { parts_seen parts.now ≡ laid 2 (bytes_of parts.now) }
     ensures { MatchResult result (λ v. (v.letter ≡ letter) × Proper v × (bytes_of parts.now ≡ map decimal (numbers v))) (λ f. NumberFault letter (bytes_of parts.now) f) }
 {
-    let values = Values {
-        letter,
-        tag: number_in(parts.tag, 2)?,
-        parent: number_in(parts.parent, 3)?,
-        couplings: number_in(parts.couplings, 4)?,
-        run: number_in(parts.run, 5)?,
-        drop: number_in(parts.drop, 6)?,
-    };
-    check_strike(parts, values)?;
-    Ok(values)
+    let numbers = numbers_of(parts)?;
+    if let Letter::Strike = letter
+        && let Some(k) = nonzero_after_tag(&numbers)
+    {
+        return Err(Cause::NotZero.in_field(k + 2, parts[k].place));
+    }
+    Ok(Values::new(letter, numbers))
 }
 
 /// The five fields and the values of a row, from its line without the newline. Places are those in the line.
-fn read_row(line: &[u8]) -> Result<(Parts<'_>, Values), RowFault>
+fn read_row(line: &[u8]) -> Result<([Field<'_>; 5], Values), RowFault>
     ensures value { MatchResult result (λ p. Proper p.1 × (line.now ≡ row_text p.1) × (parts_seen p.0 ≡ laid 2 (map decimal (numbers p.1)))) (λ f. LineFault line.now f) }
     ensures within { MatchResult result (λ p. AllByRecursion (λ t. t.place ≤ length line.now) (parts_seen p.0)) (λ f. f.at ≤ length line.now) }
 {
     let six = count_of(line, b',') == 5;
     if !six {
-        return Err(RowFault {
-            cause: Cause::NotSixFields,
-            field: 0,
-            at: 0,
-        });
+        return Err(Cause::NotSixFields.in_field(0, 0));
     }
-    let (letter, rest) = letter_of(line).in_field(1, 0)?;
+    let (letter, rest) = letter_of(line).map_err(|cause| cause.in_field(1, 0))?;
     let parts = split(rest);
     let values = values_of(letter, &parts)?;
     Ok((parts, values))
@@ -194,18 +146,19 @@ pub(crate) fn row_at<'a>(bytes: &'a [u8], line: usize, byte: usize) -> Result<Ro
     requires { byte + length bytes.now < 2 ^ 64 }
     ensures { MatchResult result (λ w. Proper w.values × (bytes.now ≡ row_text w.values) × (row_seen w ≡ found byte line w.values)) (λ f. (g : ARowFault) × LineFault bytes.now g × (f ≡ placed g line byte)) }
 {
-    let (parts, values) = on_line(read_row(bytes), line, byte)?;
+    let (parts, values) = read_row(bytes).map_err(|fault| fault.on_line(line, byte))?;
+    let [tag, parent, couplings, run, drop] = parts;
     Ok(Row {
         line,
         letter: Field {
             bytes: &bytes[0..1],
             place: byte,
         },
-        tag: parts.tag.moved(byte),
-        parent: parts.parent.moved(byte),
-        couplings: parts.couplings.moved(byte),
-        run: parts.run.moved(byte),
-        drop: parts.drop.moved(byte),
+        tag: tag.moved(byte),
+        parent: parent.moved(byte),
+        couplings: couplings.moved(byte),
+        run: run.moved(byte),
+        drop: drop.moved(byte),
         values,
     })
 }

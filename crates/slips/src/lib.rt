@@ -17,6 +17,5 @@ mod write;
 pub use cursor::Reader;
 pub use faults::{Cause, Fault, WriteFault};
 pub use rows::{Field, Letter, Row, Values};
-pub use walk::Reading;
 pub use whole::{Contents, read_slip};
 pub use write::write_row;

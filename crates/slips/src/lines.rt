@@ -7,12 +7,8 @@ ghost use Rattle.slips.specs.Inner.{count};
 pub(crate) fn cut(s: &[u8], mark: u8) -> Option<(&[u8], &[u8])>
     ensures { MatchOption result (Free mark s.now) (λ p. (s.now ≡ p.0.now ++ mark ∷ p.1.now) × Free mark p.0.now) }
 {
-    for (i, b) in s.iter().enumerate() {
-        if *b == mark {
-            return Some((&s[0..i], &s[i + 1..]));
-        }
-    }
-    None
+    let at = s.iter().position(|b| *b == mark)?;
+    Some((&s[..at], &s[at + 1..]))
 }
 
 /// How often `mark` stands in `s`.
@@ -20,11 +16,5 @@ pub(crate) fn count_of(s: &[u8], mark: u8) -> usize
     ensures value { result ≡ count mark s.now }
     ensures bound { result ≤ length s.now }
 {
-    let mut n = 0;
-    for b in s {
-        if *b == mark {
-            n += 1;
-        }
-    }
-    n
+    s.iter().filter(|b| **b == mark).count()
 }

@@ -2,15 +2,15 @@
 ghost use Rattle.std.specs.Prelude.{◌≡◌, MatchResult, ◌≢◌};
 ghost use Rattle.slips.specs.declared.faults.Cause.TheVariants.{BadLetter};
 ghost use Rattle.slips.specs.declared.rows.Letter.{Letter as ALetter};
-ghost use Rattle.slips.specs.Format.{letter_byte, numbers};
+ghost use Rattle.slips.specs.Format.{letter_byte, numbers, numbers as values_numbers};
 
 use crate::faults::Cause;
 
-/// The letter of a row, and what the row asks for.
+/// The letter of a row, by the byte that stands for it in a slip, and what the row asks for.
 #[derive(Clone, Copy, PartialEq, Eq, Debug)]
 pub enum Letter {
-    Growth,
-    Strike,
+    Growth = b'G' as isize,
+    Strike = b'S' as isize,
 }
 
 /// What a row says: its letter and its five numbers.
@@ -44,30 +44,45 @@ pub struct Row<'a> {
     pub values: Values,
 }
 
-/// What a letter asks for.
-pub(crate) fn letter_from(letter: char) -> Result<Letter, Cause>
-    ensures { MatchResult result (λ l. letter ≡ letter_byte l) (λ e. (e ≡ BadLetter) × ((l : ALetter) → letter ≢ letter_byte l)) }
-{
-    match letter {
-        'G' => Ok(Letter::Growth),
-        'S' => Ok(Letter::Strike),
-        _ => Err(Cause::BadLetter),
-    }
-}
+impl TryFrom<char> for Letter {
+    type Error = Cause;
 
-impl Letter {
-    /// The byte that stands for this letter in a slip.
-    pub fn byte(self) -> u8
-        ensures { result ≡ letter_byte self }
-    {
-        match self {
-            Letter::Growth => b'G',
-            Letter::Strike => b'S',
+    ghost try_from_gives = { λ c r. MatchResult r (λ l. c ≡ letter_byte l) (λ e. (e ≡ BadLetter) × ((l : ALetter) → c ≢ letter_byte l)) };
+
+    fn try_from(letter: char) -> Result<Letter, Cause> {
+        match letter {
+            'G' => Ok(Letter::Growth),
+            'S' => Ok(Letter::Strike),
+            _ => Err(Cause::BadLetter),
         }
     }
 }
 
+impl From<Letter> for u8 {
+    ghost from_gives = { λ letter byte. byte ≡ letter_byte letter };
+
+    fn from(letter: Letter) -> u8 {
+        letter as u8
+    }
+}
+
 impl Values {
+    /// The values of a letter and five numbers, in the order of the fields.
+    pub(crate) fn new(letter: Letter, numbers: [u32; 5]) -> Values
+        ensures letter { result.letter ≡ letter }
+        ensures numbers { values_numbers result ≡ numbers }
+    {
+        let [tag, parent, couplings, run, drop] = numbers;
+        Values {
+            letter,
+            tag,
+            parent,
+            couplings,
+            run,
+            drop,
+        }
+    }
+
     /// The five numbers, in the order of the fields.
     pub fn numbers(&self) -> [u32; 5]
         ensures { result ≡ numbers self.now }

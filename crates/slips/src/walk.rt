@@ -1,5 +1,5 @@
 // Reading a slip row by row.
-ghost use Rattle.std.specs.Prelude.{◌≡◌, ◌+◌, ◌<◌, ◌≤◌, List, [], ◌++◌, length, drop, IfOk, MatchResult};
+ghost use Rattle.std.specs.Prelude.{◌≡◌, List, [], ◌++◌, length, drop, IfOk, MatchResult};
 ghost use Rattle.slips.specs.declared.rows.Values.{Values as TheValues};
 ghost use Rattle.slips.specs.Format.{names_line};
 ghost use Rattle.slips.specs.Rules.{NamesFault, Read};
@@ -11,14 +11,6 @@ use crate::faults::{Cause, Fault};
 use crate::fields::row_at;
 use crate::lines::cut;
 use crate::rows::Row;
-
-/// What reading answers.
-#[derive(Clone, Copy)]
-pub enum Reading<'a> {
-    Row(Row<'a>),
-    Fault(Fault),
-    End,
-}
 
 /// The greatest number of bytes of a slip.
 const MOST_BYTES: usize = 65_536;
@@ -33,69 +25,14 @@ fn check_names(slip: &[u8]) -> Result<(), Cause>
     if slip.is_empty() {
         return Err(Cause::NotNames);
     }
-    match cut(slip, b'\n') {
-        None => Err(Cause::Unended),
-        Some((line, _)) => {
-            if line == NAMES {
-                Ok(())
-            } else {
-                Err(Cause::NotNames)
-            }
-        }
-    }
-}
-
-/// What reading answers where the rows are left from `byte` on, where the line `line` begins; with a row comes the byte
-/// after its line.
-fn rows_answer<'a>(
-    slip: &'a [u8],
-    byte: usize,
-    line: usize,
-) -> Result<Option<(Row<'a>, usize)>, Fault>
-    requires { line ≤ byte + 1 }
-    ensures answer { RowsAnswer (drop byte slip.now) byte line (outcome result) }
-    ensures after { After result slip.now }
-{
-    if byte >= slip.len() {
-        return Ok(None);
-    }
-    let Some((bytes, _)) = cut(&slip[byte..], b'\n') else {
-        return Err(Fault::of_line(Cause::Unended, line, byte));
+    let Some((line, _)) = cut(slip, b'\n') else {
+        return Err(Cause::Unended);
     };
-    let row = row_at(bytes, line, byte)?;
-    Ok(Some((row, byte + bytes.len() + 1)))
-}
-
-/// Where the next row begins, with its line: past the names line, which is checked where it has not been read.
-fn rows_start(slip: &[u8], byte: usize, line: usize) -> Result<(usize, usize), Fault>
-    requires { line ≤ byte + 1 }
-    ensures start { MatchResult result (λ s. (a : Answer) → RowsAnswer (drop s.0 slip.now) s.0 s.1 a → Answers slip.now byte line a) (λ f. Answers slip.now byte line (a_fault f)) }
-    ensures counted { IfOk result (λ s. s.1 ≤ s.0 + 1) }
-{
-    if slip.len() > MOST_BYTES {
-        return Err(Fault::of_line(Cause::TooLong, 0, 0));
+    if line == NAMES {
+        Ok(())
+    } else {
+        Err(Cause::NotNames)
     }
-    if line != 1 {
-        return Ok((byte, line));
-    }
-    match check_names(slip) {
-        Ok(()) => Ok((NAMES.len() + 1, 2)),
-        Err(cause) => Err(Fault::of_line(cause, 1, 0)),
-    }
-}
-
-/// What reading answers at a byte of the slip where a line begins; with a row comes the byte after its line.
-fn answer_at<'a>(
-    slip: &'a [u8],
-    byte: usize,
-    line: usize,
-) -> Result<Option<(Row<'a>, usize)>, Fault>
-    requires { line ≤ byte + 1 }
-    ensures answer { Answers slip.now byte line (outcome result) }
-    ensures after { After result slip.now }
-{
-    let (byte, line) = rows_start(slip, byte, line)?;
-    rows_answer(slip, byte, line)
 }
 
 impl<'a> Reader<'a> {
@@ -112,9 +49,48 @@ impl<'a> Reader<'a> {
         }
     }
 
+    /// Where the next row begins: past the names line, which is checked where it has not been read.
+    fn start(&self) -> Result<Reader<'a>, Fault>
+        ensures start { MatchResult result (λ r. (a : Answer) → RowsAnswer (drop r.byte r.slip.now) r.byte r.line a → Answers self.now.slip.now self.now.byte self.now.line a) (λ f. Answers self.now.slip.now self.now.byte self.now.line (a_fault f)) }
+        ensures slip { IfOk result (λ r. r.slip ≡ self.now.slip) }
+    {
+        if self.slip.len() > MOST_BYTES {
+            return Err(Fault::of_line(Cause::TooLong, 0, 0));
+        }
+        if self.line != 1 {
+            return Ok(*self);
+        }
+        check_names(self.slip).map_err(|cause| Fault::of_line(cause, 1, 0))?;
+        Ok(Reader {
+            slip: self.slip,
+            byte: NAMES.len() + 1,
+            line: 2,
+        })
+    }
+
+    /// The row of the line that begins here, with the reader past it; nothing where no byte is left.
+    fn next_row(&self) -> Result<Option<(Row<'a>, Reader<'a>)>, Fault>
+        ensures answer { RowsAnswer (drop self.now.byte self.now.slip.now) self.now.byte self.now.line (outcome result) }
+        ensures after { After self.now result }
+    {
+        if self.byte >= self.slip.len() {
+            return Ok(None);
+        }
+        let Some((line, _)) = cut(&self.slip[self.byte..], b'\n') else {
+            return Err(Fault::of_line(Cause::Unended, self.line, self.byte));
+        };
+        let row = row_at(line, self.line, self.byte)?;
+        let after = Reader {
+            slip: self.slip,
+            byte: self.byte + line.len() + 1,
+            line: self.line + 1,
+        };
+        Ok(Some((row, after)))
+    }
+
     /// The next row, a fault, or the end: the one answer that the rules allow where the reader stands. Only a row moves
     /// it on, so that reading again after a fault or at the end gives the same.
-    pub fn read(&mut self) -> Reading<'a>
+    pub fn read(&mut self) -> Result<Option<Row<'a>>, Fault>
         ensures answer { Answers self.old.slip.now self.old.byte self.old.line (seen result) }
         ensures only { (a : Answer) → Answers self.old.slip.now self.old.byte self.old.line a → a ≡ seen result }
         ensures row { HandsOut self.old.slip.now (seen result) }
@@ -122,19 +98,10 @@ impl<'a> Reader<'a> {
         ensures whole { (vs : List TheValues) → Read self.old.slip.now vs self.old.byte self.old.line → Continues self.old.slip.now vs (seen result) self.new.byte self.new.line }
         ensures slip { self.new.slip ≡ self.old.slip }
     {
-        let slip = self.slip;
-        let next = match answer_at(slip, self.byte, self.line) {
-            Ok(next) => next,
-            Err(fault) => return Reading::Fault(fault),
+        let Some((row, after)) = self.start()?.next_row()? else {
+            return Ok(None);
         };
-        let Some((row, after)) = next else {
-            return Reading::End;
-        };
-        *self = Reader {
-            slip,
-            byte: after,
-            line: row.line + 1,
-        };
-        Reading::Row(row)
+        *self = after;
+        Ok(Some(row))
     }
 }

@@ -9,7 +9,6 @@ ghost use Rattle.slips.specs.Seen.{row_seen, found_from, values_in};
 use crate::cursor::Reader;
 use crate::faults::Fault;
 use crate::rows::Row;
-use crate::walk::Reading;
 use std::alloc::{AllocError, Global};
 
 /// What a slip holds: its rows up to its end or its first fault, and that fault.
@@ -28,16 +27,12 @@ pub fn read_slip<'a>(heap: Global, slip: &'a [u8]) -> Result<Contents<'a>, Alloc
 {
     let mut reader = Reader::new(slip);
     let mut rows = Vec::new(heap);
-    loop {
+    let fault = loop {
         match reader.read() {
-            Reading::Row(row) => rows.push(row)?,
-            Reading::Fault(fault) => {
-                return Ok(Contents {
-                    rows,
-                    fault: Some(fault),
-                });
-            }
-            Reading::End => return Ok(Contents { rows, fault: None }),
+            Ok(Some(row)) => rows.push(row)?,
+            Ok(None) => break None,
+            Err(fault) => break Some(fault),
         }
-    }
+    };
+    Ok(Contents { rows, fault })
 }

@@ -1,6 +1,6 @@
 // The reader, one reading after another.
 use crate::sample::{NAMES_LINE, SAMPLE};
-use slips::{Cause, Fault, Reader, Reading};
+use slips::{Cause, Fault, Reader};
 use std::process::Abort;
 use std::test::Fail;
 
@@ -11,33 +11,29 @@ fn check_row(
     line: usize,
     byte: usize,
 ) -> Result<(), Fail> {
-    match reader.read() {
-        Reading::Row(row) => {
-            assert_eq!(rt; row.line, line);
-            assert_eq!(rt; row.letter.place, byte);
-            Ok(())
-        }
-        Reading::Fault(_) | Reading::End => Err(Fail::new("no row")),
-    }
+    let Ok(Some(row)) = reader.read() else {
+        return Err(Fail::new("no row"));
+    };
+    assert_eq!(rt; row.line, line);
+    assert_eq!(rt; row.letter.place, byte);
+    Ok(())
 }
 
 /// Checks that the next reading is this fault.
 fn check_fault(rt: &impl Abort, reader: &mut Reader<'_>, fault: Fault) -> Result<(), Fail> {
-    match reader.read() {
-        Reading::Fault(found) => {
-            assert_eq!(rt; found, fault);
-            Ok(())
-        },
-        Reading::Row(_) | Reading::End => Err(Fail::new("no fault")),
-    }
+    let Err(found) = reader.read() else {
+        return Err(Fail::new("no fault"));
+    };
+    assert_eq!(rt; found, fault);
+    Ok(())
 }
 
 /// Checks that the next reading is the end.
 fn check_end(reader: &mut Reader<'_>) -> Result<(), Fail> {
-    match reader.read() {
-        Reading::End => Ok(()),
-        Reading::Row(_) | Reading::Fault(_) => Err(Fail::new("no end")),
-    }
+    let Ok(None) = reader.read() else {
+        return Err(Fail::new("no end"));
+    };
+    Ok(())
 }
 
 /// Where each row of the sample begins.

@@ -64,7 +64,7 @@ fn check_read_back(
     assert!(rt; contents.fault.is_none(), "{note}");
     assert_eq!(rt; contents.rows.len(), 1, "{note}");
     for row in &contents.rows {
-        assert_eq!(rt; char::from(row.values.letter.byte()), letter, "{note}");
+        assert_eq!(rt; char::from(u8::from(row.values.letter)), letter, "{note}");
         assert_eq!(rt; row.values.numbers(), numbers, "{note}");
     }
     Ok(())

@@ -1,16 +1,10 @@
-use Rattle.std.proofs.Common.{◌≡◌, ◌<◌, length, rules}
-use Rattle.std.proofs.lemmas.List.{take_all, take_rest}
-use Rattle.std.proofs.ByRecursion.{All-more}
-use Rattle.slips.proofs.Marks.{cut_at}
+use Rattle.std.proofs.Common.{◌≡◌, ◌≢◌, rules, tests}
+use Rattle.std.proofs.lemmas.Iterator.{IsFirst-from_position, YieldsList-from_slice}
+use Rattle.slips.proofs.Marks.{cut_first}
 use Rattle.slips.proofs.lines.cut.Goals as goal
 
-pub returns-then-b-mark : goal.returns-then-b-mark
-returns-then-b-mark c = search (rules, cut_at, take_rest)
-
-pub loop-i-preserved : goal.loop-i-preserved
-loop-i-preserved c =
-    let h : c.loop-i.i < length c.args.s.now = search rules in
-    All-more (λ x. x ≡ c.args.mark → ⊥) c.args.s.now c.loop-i.i 0 h c.loop-i.invariant c.if-b-mark.false
-
 pub returns : goal.returns
-returns c = search (rules, take_all)
+returns c =
+    let s = c.args.s.now in
+    let h = IsFirst-from_position _ _ _ (λ b. b ≡ c.args.mark) (λ b. b ≢ c.args.mark) c.position.ensures.ran (YieldsList-from_slice s cc) (λ x q k. search (rules, tests)) (λ x q k. search (rules, tests)) in
+    cut_first s (rw c.in_ok-at.was at h)

@@ -1,7 +1,9 @@
-use Rattle.std.proofs.Common.{◌<◌, ◌≤◌, rules}
-use Rattle.std.proofs.ByRecursion.{All-from_get_or}
+use Rattle.std.proofs.Common.{◌<◌, ◌≤◌, rules, tests}
+use Rattle.std.proofs.lemmas.Iterator.{IsFirst-from_position, YieldsList-from_slice}
 use Rattle.slips.specs.Format.{most}
+use Rattle.slips.proofs.Marks.{first_above}
 use Rattle.slips.proofs.write.too_large.Goals as goal
 
 pub returns : goal.returns
-returns c = All-from_get_or (λ n. n ≤ most) c.args.numbers.now 0 (λ i h. let low : i < c.loop-k.k = search rules in c.loop-k.invariant i low)
+returns c =
+    first_above most c.position.result c.args.numbers.now (IsFirst-from_position _ _ _ (λ b. most < b) (λ b. b ≤ most) c.position.ensures.ran (YieldsList-from_slice c.args.numbers.now cc) (λ x q k. search (rules, tests)) (λ x q k. search (rules, tests)))
