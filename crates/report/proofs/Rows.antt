@@ -1,7 +1,6 @@
 -- The lines of the rows, one after another.
-use Rattle.std.proofs.Common.{◌≡◌, ℕ, ◌+◌, ◌<◌, List, [], ◌∷◌, ◌++◌, map, length, get_or, take, sym, refl, ap, ◌∙◌}
+use Rattle.std.proofs.Common.{◌≡◌, ℕ, ◌+◌, List, [], ◌∷◌, ◌++◌, map, length, refl, ap, ◌∙◌}
 use Rattle.std.specs.List.{flat_map}
-use Rattle.std.proofs.lemmas.List.{take_more, flat_map_more}
 use Rattle.slips.specs.declared.rows.Row.{Row}
 use Rattle.slips.specs.Seen.{Found, row_seen, found_from, values_in}
 use Rattle.slips.specs.Format.{row_line}
@@ -20,10 +19,3 @@ rows_lines b l (r ∷ rows) e =
 
     tail : {x y : Found} {xs ys : List Found} → x ∷ xs ≡ y ∷ ys → xs ≡ ys
     tail p = cc
-
--- texts one after another, and one more
-pub texts_more : {X : Type 0} (f : X → List ℕ) (front before after : List ℕ) (xs : List X) (i : ℕ) (d : X) → i < length xs
-    → before ≡ front ++ flat_map f (take i xs) → after ≡ before ++ f (get_or xs i d) → after ≡ front ++ flat_map f (take (i + 1) xs)
-texts_more {X} f front before after xs i d h was e =
-    e ∙ ap (λ (t : List ℕ). t ++ f (get_or xs i d)) was ∙ flat_map_more f front (take i xs) (get_or xs i d)
-    ∙ ap (λ (ys : List X). front ++ flat_map f ys) (sym (take_more xs i d h))

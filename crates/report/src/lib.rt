@@ -40,7 +40,7 @@ pub fn slip_report(heap: Global, slip: &[u8]) -> Result<String, AllocError>
 {
     let Contents { rows, fault } = read_slip(heap, slip)?;
     let mut text = String::from_str(heap, "line,slip\n")?;
-    put_rows(&mut text, rows.as_slice())?;
+    put_rows(&mut text, &rows)?;
     put_fault(&mut text, fault)?;
     Ok(text)
 }

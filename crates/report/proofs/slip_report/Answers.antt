@@ -13,12 +13,12 @@ pub returns : goal.returns
 returns c =
     let told = c.in_ok-rows.ensures in
     let rows = vec_items c.in_ok-rows.field-0.rows in
-    let lines : flat_map (λ (w : Row). line_text w.line (0 ∷ [])) c.as_slice.result.now ≡ rows_text 2 (values_in rows) =
-    ap (flat_map (λ (w : Row). line_text w.line (0 ∷ []))) c.as_slice.ensures.value ∙ rows_lines (length names_line) 2 rows told.rows in
+    let lines : flat_map (λ (w : Row). line_text w.line (0 ∷ [])) c.deref.result.now ≡ rows_text 2 (values_in rows) =
+    ap (flat_map (λ (w : Row). line_text w.line (0 ∷ []))) c.deref.ensures.value ∙ rows_lines (length names_line) 2 rows told.rows in
     let fault = c.in_ok-rows.field-0.fault in
     let text : string_bytes c.put_fault.new.text ≡ codes "line,slip\n" ++ (rows_text 2 (values_in rows) ++ fault_text 1 fault) = c.in_ok-put_fault.ensures
     ∙ ap (λ (t : List ℕ). t ++ fault_text 1 c.in_ok-rows.field-0.fault)
-    (c.in_ok-put_rows.ensures ∙ ap (λ (t : List ℕ). t ++ flat_map (λ (w : Row). line_text w.line (0 ∷ [])) c.as_slice.result.now) c.in_ok-text.ensures.ok
+    (c.in_ok-put_rows.ensures ∙ ap (λ (t : List ℕ). t ++ flat_map (λ (w : Row). line_text w.line (0 ∷ [])) c.deref.result.now) c.in_ok-text.ensures.ok
     ∙ ap (λ (t : List ℕ). codes "line,slip\n" ++ t) lines)
     ∙ append_assoc (codes "line,slip\n") (rows_text 2 (values_in rows)) (fault_text 1 fault) in
     record {
