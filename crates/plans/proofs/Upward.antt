@@ -1,10 +1,13 @@
 -- One tag of the pass upwards.
-use Rattle.std.proofs.Common.{◌≡◌, ℕ, ◌-◌, ◌<◌, ◌≤◌, Bool, true, false, ◌&&◌, ◌||◌, eqb, ltb, List, length, get_or, drop, sym, refl, ap, ◌∙◌, inl, inr, arith}
+use Rattle.std.proofs.Common.{◌≡◌, ℕ, ◌+◌, ◌-◌, ◌<◌, ◌≤◌, Bool, true, false, ◌&&◌, ◌||◌, eqb, ltb, List, length, get_or, drop, sym, refl, ap, ◌∙◌, subst, inl, inr, arith}
 use Rattle.std.proofs.lemmas.List.{get_or-set_same, get_or-set_other, length-set, drop-set-lt}
-use Rattle.std.proofs.lemmas.Bool.{cases_Bool, and_parts, and_from, lt-ltb, cond_both, cond-true, cond-false, not-true, or_parts}
+use Rattle.std.proofs.lemmas.Bool.{cases_Bool, cases_eq, and_parts, and_from, lt-ltb, cond_both, cond-true, cond-false, not-true, or_parts}
 use Rattle.lengths.specs.Figures.{Figures, Laws}
+use Rattle.books.specs.declared.states.State.{State}
 use Rattle.trees.proofs.Trees.{Tree, Stands, Joined, joined, side, differ, nearest}
 use Rattle.trees.proofs.Passes.{near_common, near_path, near_other}
+use Rattle.plans.specs.declared.sides.Sides.{Sides}
+use Rattle.plans.specs.Drawn.{parent_of, run_of}
 use Rattle.plans.specs.Passing.{Given, up_to}
 use Rattle.plans.proofs.Downward.{beyond_of}
 
@@ -42,37 +45,59 @@ apart true false a b = refl
 apart false true a b = refl
 apart false false a b = b
 
-module _ {K : Type 0} {k : Figures K} (laws : Laws k) (T : Tree k) (a b size : ℕ) (parents : List ℕ) (runs : ℕ → K) (one two : List Bool) (given : Given T a b size parents runs one two) where
-  pub up_here : (tag : ℕ) → 2 ≤ tag → tag ≤ size → Stands T tag → (memory : List K) → size ≤ length memory
-      → (side T tag a ≡ true → side T tag b ≡ true → get_or memory (tag - 1) k.zero ≡ beyond_of laws T a b size parents runs one two given tag)
-      → ((t : ℕ) → 1 ≤ t → t < tag → Stands T t → get_or memory (t - 1) k.zero ≡ nearest T t a b)
-      → get_or (up_to k memory (get_or parents tag 0) (get_or one tag false) (get_or two tag false) tag (runs (tag - 1))) (tag - 1) k.zero ≡ nearest T tag a b
-  up_here tag low high s memory long common before =
-      let p = get_or parents tag 0 in
-      let o = get_or one tag false in
-      let w = get_or two tag false in
-      let eo = given.first_met tag (omega arith) high in
-      let ew = given.last_met tag (omega arith) high in
-      let up : eqb p 0 ≡ false = not-true (eqb p 0) (sym (given.stands tag low high) ∙ s) in
-      let j = joined_from tag low s in
-      ap (λ (m : List K). get_or m (tag - 1) k.zero) (cond-false _ _ _ up) ∙ elim (cases_Bool (o && w)) [
-        | inl y ↦
-            let q = and_parts o w y in
-            ap (λ (m : List K). get_or m (tag - 1) k.zero) (cond-true _ _ _ y) ∙ common (sym eo ∙ q.0) (sym ew ∙ q.1)
-            ∙ sym (near_common laws T tag a b s given.first_stands given.last_stands (sym eo ∙ q.0) (sym ew ∙ q.1))
-        | inr n ↦ ap (λ (m : List K). get_or m (tag - 1) k.zero) (cond-false _ _ _ n) ∙ elim (cases_Bool (o || w)) [
+module _
+    {K : Type 0} {k : Figures K} (laws : Laws k) {T : Tree k} {a b size : ℕ} {read : ℕ → State K} {sides : Sides}
+    (given : Given T a b size read sides) (tag : ℕ) (low : 2 ≤ tag) (high : tag ≤ size)
+  where
+    pub up_here : Stands T tag → (memory : List K) → size ≤ length memory
+        → (side T tag a ≡ true → side T tag b ≡ true → get_or memory (tag - 1) k.zero ≡ beyond_of T a b tag)
+        → ((t : ℕ) → 1 ≤ t → t < tag → Stands T t → get_or memory (t - 1) k.zero ≡ nearest T t a b)
+        → get_or (up_to k memory (parent_of (read tag)) (get_or sides.first tag false) (get_or sides.last tag false) tag (run_of k (read tag))) (tag - 1) k.zero ≡ nearest T tag a b
+    up_here s memory long common before =
+        let p = parent_of (read tag) in
+        let o = get_or sides.first tag false in
+        let w = get_or sides.last tag false in
+        let run = run_of k (read tag) in
+        let eo = given.first_met tag (omega arith) high in
+        let ew = given.last_met tag (omega arith) high in
+        let up : eqb p 0 ≡ false = not-true (eqb p 0) (sym (given.stands tag low high) ∙ s) in
+        let j = make_joined T tag low s in
+        ap (λ (m : List K). get_or m (tag - 1) k.zero) (cond-false _ _ _ up) ∙ elim (cases_Bool (o && w)) [
           | inl y ↦
-              ap (λ (m : List K). get_or m (tag - 1) k.zero) (cond-true _ _ _ y) ∙ get_or-set_same memory (tag - 1) k.zero k.zero (omega arith)
-              ∙ sym (near_path laws T tag a b s given.first_stands given.last_stands (ap (λ (x : Bool). differ x (side T tag b)) (sym eo) ∙ ap (differ o) (sym ew) ∙ apart o w n y))
-          | inr f ↦
-              let q = or_parts o w f in
-              let e : T.parent tag ≡ p = given.parent tag j in
-              ap (λ (m : List K). get_or m (tag - 1) k.zero) (cond-false _ _ _ f) ∙ get_or-set_same memory (tag - 1) _ k.zero (omega arith)
-              ∙ ap (λ (x : K). k.sum x (runs (tag - 1))) (ap (λ (x : ℕ). get_or memory (x - 1) k.zero) (sym e) ∙ before (T.parent tag) (T.from_one _ (T.up_stands tag s low)) (T.up_lower tag s low) (T.up_stands tag s low))
-              ∙ ap (k.sum (nearest T (T.parent tag) a b)) (sym (given.run tag j))
-              ∙ sym (near_other laws T tag a b s given.first_stands given.last_stands (sym eo ∙ q.0) (sym ew ∙ q.1))
+              let q = and_parts o w y in
+              ap (λ (m : List K). get_or m (tag - 1) k.zero) (cond-true _ _ _ y) ∙ common (sym eo ∙ q.0) (sym ew ∙ q.1)
+              ∙ sym (near_common laws T tag a b s given.first_stands given.last_stands (sym eo ∙ q.0) (sym ew ∙ q.1))
+          | inr n ↦ ap (λ (m : List K). get_or m (tag - 1) k.zero) (cond-false _ _ _ n) ∙ elim (cases_Bool (o || w)) [
+            | inl y ↦
+                ap (λ (m : List K). get_or m (tag - 1) k.zero) (cond-true _ _ _ y) ∙ get_or-set_same memory (tag - 1) k.zero k.zero (omega arith)
+                ∙ sym (near_path laws T tag a b s given.first_stands given.last_stands (ap (λ (x : Bool). differ x (side T tag b)) (sym eo) ∙ ap (differ o) (sym ew) ∙ apart o w n y))
+            | inr f ↦
+                let q = or_parts o w f in
+                let e : T.parent tag ≡ p = given.parent tag j in
+                ap (λ (m : List K). get_or m (tag - 1) k.zero) (cond-false _ _ _ f) ∙ get_or-set_same memory (tag - 1) _ k.zero (omega arith)
+                ∙ ap (λ (x : K). k.sum x run) (ap (λ (x : ℕ). get_or memory (x - 1) k.zero) (sym e) ∙ before (T.parent tag) (T.from_one _ (T.up_stands tag s low)) (T.up_lower tag s low) (T.up_stands tag s low))
+                ∙ ap (k.sum (nearest T (T.parent tag) a b)) (sym (given.run tag j))
+                ∙ sym (near_other laws T tag a b s given.first_stands given.last_stands (sym eo ∙ q.0) (sym ew ∙ q.1))
+          ]
         ]
-      ]
-    where
-      joined_from : (t : ℕ) → 2 ≤ t → Stands T t → Joined T t
-      joined_from t l h = make_joined T t l h
+
+    -- after this tag, every point up to it has its distance
+    pub up_more : (first memory after : List K) → size ≤ length memory
+        → after ≡ up_to k memory (parent_of (read tag)) (get_or sides.first tag false) (get_or sides.last tag false) tag (run_of k (read tag))
+        → ((t : ℕ) → tag ≤ t → t ≤ size → get_or memory (t - 1) k.zero ≡ get_or first (t - 1) k.zero)
+        → ((t : ℕ) → 1 ≤ t → t ≤ size → side T t a ≡ true → side T t b ≡ true → get_or first (t - 1) k.zero ≡ beyond_of T a b t)
+        → ((t : ℕ) → 1 ≤ t → t < tag → Stands T t → get_or memory (t - 1) k.zero ≡ nearest T t a b)
+        → (t : ℕ) → 1 ≤ t → t < tag + 1 → Stands T t → get_or after (t - 1) k.zero ≡ nearest T t a b
+    up_more first memory after long written kept put done t l less s =
+        let p = parent_of (read tag) in
+        let o = get_or sides.first tag false in
+        let w = get_or sides.last tag false in
+        let run = run_of k (read tag) in
+        ap (λ (m : List K). get_or m (t - 1) k.zero) written ∙ elim (cases_eq t tag) [
+          | inl e ↦
+              ap (λ (n : ℕ). get_or (up_to k memory p o w tag run) (n - 1) k.zero) e
+              ∙ up_here (subst (λ (n : ℕ). Stands T n) e s) memory long
+              (λ x y. kept tag (omega arith) (omega arith) ∙ put tag (omega arith) (omega arith) x y) done
+              ∙ ap (λ (n : ℕ). nearest T n a b) (sym e)
+          | inr n ↦ up_other k memory p o w tag run (t - 1) (λ e. omega arith) ∙ done t l (omega arith) s
+        ]
