@@ -1,6 +1,7 @@
 -- Going up from a tag, one parent at a time.
 use Rattle.std.proofs.Common.{◌≡◌, ℕ, zero, suc, ◌<◌, ◌≤◌, Bool, true, false, ◌&&◌, ◌||◌, eqb, ltb, List, length, get_or, set, sym, refl, ap, ◌∙◌, inl, inr, arith}
 use Rattle.std.proofs.lemmas.List.{get_or-set_same, get_or-set_other}
+use Rattle.std.proofs.Math.Bool.{or-true, or-false}
 use Rattle.std.proofs.lemmas.Bool.{cases_Bool, cases_eq, eq-eqb, ne_eqb, eqb-true, lt-ltb, le-ltb, ltb-true, or_cases, and_parts, and_right}
 use Rattle.trees.proofs.Trees.{side_by}
 
@@ -29,11 +30,8 @@ module _ (P : ℕ → ℕ) (falls : (t : ℕ) → 1 ≤ t → t ≤ 256 → P t 
   side_low zero x h e = let z : ◌≡◌ {A = ℕ} 0 1 = cc in absurd (omega arith)
   side_low (suc f) x h e = elim (or_cases (eqb t x) (ltb t x && side_by P f t (P x)) e) [
     | inl y ↦ omega (arith, eqb-true t x y)
-    | inr y ↦ omega (arith, lib_ltb t x (and_parts (ltb t x) (side_by P f t (P x)) y).0)
+    | inr y ↦ omega (arith, ltb-true t x (and_parts (ltb t x) (side_by P f t (P x)) y).0)
   ]
-    where
-      lib_ltb : (m n : ℕ) → ltb m n ≡ true → m < n
-      lib_ltb m n e = ltb-true m n e
 
   -- one step up
   pub side_up : (x : ℕ) → 1 ≤ x → x ≤ 256 → side_by P x t x ≡ (eqb t x || side_by P (P x) t (P x))
@@ -53,24 +51,16 @@ pub chain_more : (P : ℕ → ℕ) → ((t : ℕ) → 1 ≤ t → t ≤ 256 → 
 chain_more P falls met at t long a b low high = elim (cases_eq t at) [
   | inl e ↦
       ap (λ (s : Bool). s || side_by P (P at) t (P at)) (ap (λ (n : ℕ). get_or (set met at true) n false) e ∙ get_or-set_same met at true false (omega arith))
-      ∙ sym (ap (λ (s : Bool). get_or met t false || s) (side_up P falls t low at a b ∙ ap (λ (s : Bool). s || side_by P (P at) t (P at)) (eq-eqb t at e)) ∙ or_true (get_or met t false))
+      ∙ sym (ap (λ (s : Bool). get_or met t false || s) (side_up P falls t low at a b ∙ ap (λ (s : Bool). s || side_by P (P at) t (P at)) (eq-eqb t at e)) ∙ or-true (get_or met t false))
   | inr n ↦
       ap (λ (s : Bool). s || side_by P (P at) t (P at)) (get_or-set_other met at t true false n)
       ∙ sym (ap (λ (s : Bool). get_or met t false || s) (side_up P falls t low at a b ∙ ap (λ (s : Bool). s || side_by P (P at) t (P at)) (ne_eqb t at n)))
 ]
-  where
-    or_true : (m : Bool) → (m || true) ≡ true
-    or_true true = refl
-    or_true false = refl
 
 -- at the top nothing is left to meet
 pub chain_end : (P : ℕ → ℕ) → ((t : ℕ) → 1 ≤ t → t ≤ 256 → P t < t) → (met : List Bool) (at t : ℕ) → 1 ≤ t → at ≤ 0 → get_or met t false ≡ (get_or met t false || side_by P at t at)
 chain_end P falls met at t low h =
-    sym (or_false (get_or met t false)) ∙ ap (λ (s : Bool). get_or met t false || s) (sym (ap (λ (n : ℕ). side_by P n t n) zero_at ∙ side_none P falls t low 0))
+    sym (or-false (get_or met t false)) ∙ ap (λ (s : Bool). get_or met t false || s) (sym (ap (λ (n : ℕ). side_by P n t n) zero_at ∙ side_none P falls t low 0))
   where
     zero_at : at ≡ 0
     zero_at = omega arith
-
-    or_false : (m : Bool) → (m || false) ≡ m
-    or_false true = refl
-    or_false false = refl

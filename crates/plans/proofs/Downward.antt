@@ -4,7 +4,8 @@ use Rattle.std.proofs.lemmas.List.{get_or-set_same, get_or-set_other}
 use Rattle.std.proofs.lemmas.Bool.{cases_eq, and_parts, and_from, lt-ltb, both_ways}
 use Rattle.lengths.specs.Figures.{Figures, Laws}
 use Rattle.books.specs.declared.states.State.{State}
-use Rattle.trees.proofs.Trees.{Tree, Stands, Joined, joined, side, selected}
+use Rattle.trees.proofs.Trees.{Tree, Stands, Joined, side, selected}
+use Rattle.trees.proofs.Runs.{is_joined}
 use Rattle.trees.proofs.Sides.{by_parent, side_up, side_low}
 use Rattle.trees.proofs.Passes.{common_step, common_skip}
 use Rattle.plans.specs.declared.sides.Sides.{Sides}
@@ -13,7 +14,7 @@ use Rattle.plans.specs.Passing.{Given}
 
 module _ {K : Type 0} {k : Figures K} (T : Tree k) where
   -- what is met on the way up from a point stands
-  pub met_stands : (e : ℕ) → 1 ≤ e → (x : ℕ) → Stands T x → side T e x ≡ true → Stands T e
+  met_stands : (e : ℕ) → 1 ≤ e → (x : ℕ) → Stands T x → side T e x ≡ true → Stands T e
   met_stands e low = by_parent T (λ x. side T e x ≡ true → Stands T e) step
     where
       step : (y : ℕ) → Stands T y → (1 < y → side T e (T.parent y) ≡ true → Stands T e) → side T e y ≡ true → Stands T e
@@ -23,8 +24,7 @@ module _ {K : Type 0} {k : Figures K} (T : Tree k) where
       ]
 
   met_joined : (e : ℕ) → 2 ≤ e → (x : ℕ) → Stands T x → side T e x ≡ true → Joined T e
-  unfolding joined
-  met_joined e low x s h = and_from (ltb 1 e) (T.stands e) (lt-ltb 1 e low) (met_stands e (omega arith) x s h)
+  met_joined e low x s h = is_joined T (met_stands e (omega arith) x s h) (omega arith)
 
   -- the common runs beyond a tag
   abbrev pub beyond_of : ℕ → ℕ → ℕ → K

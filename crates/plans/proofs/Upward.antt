@@ -4,7 +4,8 @@ use Rattle.std.proofs.lemmas.List.{get_or-set_same, get_or-set_other, length-set
 use Rattle.std.proofs.lemmas.Bool.{cases_Bool, cases_eq, and_parts, and_from, lt-ltb, cond_both, cond-true, cond-false, not-true, or_parts}
 use Rattle.lengths.specs.Figures.{Figures, Laws}
 use Rattle.books.specs.declared.states.State.{State}
-use Rattle.trees.proofs.Trees.{Tree, Stands, Joined, joined, side, differ, nearest}
+use Rattle.trees.proofs.Trees.{Tree, Stands, side, differ, nearest}
+use Rattle.trees.proofs.Runs.{is_joined}
 use Rattle.trees.proofs.Passes.{near_common, near_path, near_other}
 use Rattle.plans.specs.declared.sides.Sides.{Sides}
 use Rattle.plans.specs.Drawn.{parent_of, run_of}
@@ -33,17 +34,9 @@ module _ {K : Type 0} (k : Figures K) (memory : List K) (parent : ℕ) (one two 
       cond_both (one && two) _ _ (λ (m : List K). drop size m ≡ drop size memory) (λ _. refl) (λ _.
       cond_both (one || two) _ _ (λ (m : List K). drop size m ≡ drop size memory) (λ _. drop-set-lt size memory (tag - 1) k.zero h) (λ _. drop-set-lt size memory (tag - 1) _ h)))
 
--- a point other than the root is joined to its parent
-make_joined : {K : Type 0} {k : Figures K} (T : Tree k) (t : ℕ) → 2 ≤ t → Stands T t → Joined T t
-unfolding joined
-make_joined T t l h = and_from (ltb 1 t) (T.stands t) (lt-ltb 1 t l) h
-
 -- two sides that are not both true, one of which is, differ
 apart : (s t : Bool) → (s && t) ≡ false → (s || t) ≡ true → differ s t ≡ true
-apart true true a b = sym a
-apart true false a b = refl
-apart false true a b = refl
-apart false false a b = b
+apart s t a b = grind arith
 
 module _
     {K : Type 0} {k : Figures K} (laws : Laws k) {T : Tree k} {a b size : ℕ} {read : ℕ → State K} {sides : Sides}
@@ -61,7 +54,7 @@ module _
         let eo = given.first_met tag (omega arith) high in
         let ew = given.last_met tag (omega arith) high in
         let up : eqb p 0 ≡ false = not-true (eqb p 0) (sym (given.stands tag low high) ∙ s) in
-        let j = make_joined T tag low s in
+        let j = is_joined T s (omega arith) in
         ap (λ (m : List K). get_or m (tag - 1) k.zero) (cond-false _ _ _ up) ∙ elim (cases_Bool (o && w)) [
           | inl y ↦
               let q = and_parts o w y in

@@ -10,11 +10,6 @@ loop-tag-preserved g c =
     read_more size.lawful (held c.loop-tag.states) (held c.put.new.self) c.loop-tag.tag c.look.result c.unwrap_or-state.result
     c.loop-tag.auto.tag (omega (arith, c.loop-tag-test.true, size.answer)) c.look.ensures c.unwrap_or-state.ensures c.put.ensures c.loop-tag.invariant
 
-pub returns : goal.returns
-returns g c =
-    let size = c.size-size.ensures in
-    all_read size.lawful (drawn c.loop-tag.states) c.loop-tag.tag (omega (arith, c.loop-tag-test.false, size.answer)) c.loop-tag.invariant
-
 pub returns-2 : goal.returns-2
 returns-2 g c =
     let size = c.size-size.ensures in

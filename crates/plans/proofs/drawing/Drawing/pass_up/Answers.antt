@@ -36,10 +36,6 @@ loop-tag-preserved g c =
           (omega (arith, inv.0, c.requires)) c.up_at.ensures inv.2 put (inv.3 T a b given put),
     )
 
-pub returns-clause-near : goal.returns-clause-near
-returns-clause-near g c = λ T a b given put t s.
-    c.loop-tag.invariant.3 T a b given put t (T.from_one t s) (omega (arith, T.to_high t s, given.high, c.loop-tag-test.false)) s
-
 pub returns-2-clause-near : goal.returns-2-clause-near
 returns-2-clause-near g c = λ T a b given put t s.
     let inv = c.loop-tag.invariant in
