@@ -1,9 +1,8 @@
 -- Which side of a run a point is on.
 use Rattle.std.proofs.Common.{◌≡◌, ℕ, zero, suc, ◌<◌, ◌≤◌, Bool, true, false, ◌&&◌, ◌||◌, eqb, ltb, ◌⊎◌, sym, refl, ap, ◌∙◌, inl, inr, arith}
-use Rattle.std.proofs.lemmas.Bool.{both_ways, cases_Bool, ltb-true, eq-eqb, ne_eqb, lt-ltb, le-ltb, cases_order, or_left}
+use Rattle.std.proofs.lemmas.Bool.{both_ways, cases_Bool, ltb-true, eq-eqb, ne_eqb, lt-ltb, le-ltb, cases_order, or_left, false_from_ne_true}
 use Rattle.lengths.specs.Figures.{Figures}
 use Rattle.trees.proofs.Trees.{Tree, Stands, Joined, side_by, side}
-use Rattle.trees.proofs.TwoSides.{is_false}
 use Rattle.trees.proofs.Runs.{joined_stands, up_lower, later_joined}
 
 -- what follows a test counts only where the test is passed
@@ -113,7 +112,7 @@ module _ {F : Type 0} {k : Figures F} (T : Tree k) where
 
       go : (side T e f ≡ true) ⊎ (side T e f ≡ false) → side T e z ≡ side T e f
       go (inl t) = side_trans e f l t z s g ∙ sym t
-      go (inr n) = is_false (side T e z) (λ t. no_e n t (cases_order e f)) ∙ sym n
+      go (inr n) = false_from_ne_true (side T e z) (λ t. no_e n t (cases_order e f)) ∙ sym n
 
   -- runs do not cross: two points that the run f parts from e are on one side of the run e
   pub nested :
@@ -122,7 +121,7 @@ module _ {F : Type 0} {k : Figures F} (T : Tree k) where
   nested e f l m y z s t same apart = go (cases_Bool (side T f e)) (cases_Bool (side T f y))
     where
       over : side T f e ≡ true → (x : ℕ) → Stands T x → side T f x ≡ false → side T e x ≡ false
-      over p x u q = is_false (side T e x) (λ r. both_ways (side T f x) q (side_trans f e m p x u r))
+      over p x u q = false_from_ne_true (side T e x) (λ r. both_ways (side T f x) q (side_trans f e m p x u r))
 
       go : (side T f e ≡ true) ⊎ (side T f e ≡ false) → (side T f y ≡ true) ⊎ (side T f y ≡ false) → side T e y ≡ side T e z
       go (inl p) (inl q) = absurd (apart (p ∙ sym q))
