@@ -1,28 +1,15 @@
 -- Going up from a tag, one parent at a time.
-use Rattle.std.proofs.Common.{◌≡◌, ℕ, zero, suc, ◌<◌, ◌≤◌, Bool, true, false, ◌&&◌, ◌||◌, eqb, ltb, List, length, get_or, set, sym, refl, ap, ◌∙◌, inl, inr, arith}
+use Rattle.std.proofs.Common.{◌≡◌, ℕ, zero, suc, ◌<◌, ◌≤◌, Bool, true, false, ◌&&◌, ◌||◌, eqb, ltb, List, length, get_or, set, sym, ap, ◌∙◌, inl, inr, arith}
 use Rattle.std.proofs.lemmas.List.{get_or-set_same, get_or-set_other}
 use Rattle.std.proofs.Math.Bool.{or-true, or-false}
-use Rattle.std.proofs.lemmas.Bool.{cases_Bool, cases_eq, eq-eqb, ne_eqb, eqb-true, lt-ltb, le-ltb, ltb-true, or_cases, and_parts, and_right}
+use Rattle.std.proofs.lemmas.Bool.{cases_Bool, cases_eq, eq-eqb, ne_eqb, eqb-true, lt-ltb, ltb-true, or_cases, and_parts, and_right}
 use Rattle.trees.proofs.Trees.{side_by}
+use Rattle.trees.proofs.Sides.{side_none, enough}
 
 module _ (P : ℕ → ℕ) (falls : (t : ℕ) → 1 ≤ t → t ≤ 256 → P t < t) (t : ℕ) (low : 1 ≤ t) where
-  -- above 0 there is nothing
-  side_none : (f : ℕ) → side_by P f t 0 ≡ false
-  unfolding side_by
-  side_none zero = refl
-  side_none (suc f) = rw (ne_eqb t 0 (λ e. omega arith), le-ltb t 0 (omega arith)) refl
-
-  -- enough steps are enough
-  enough : (f g x : ℕ) → x ≤ 256 → x ≤ f → x ≤ g → side_by P f t x ≡ side_by P g t x
-  unfolding side_by
-  enough zero g zero h a b = sym (side_none g)
-  enough zero g (suc x) h a b = absurd (omega arith)
-  enough (suc f) zero zero h a b = side_none (suc f)
-  enough (suc f) zero (suc x) h a b = absurd (omega arith)
-  enough (suc f) (suc g) zero h a b = side_none (suc f) ∙ sym (side_none (suc g))
-  enough (suc f) (suc g) (suc x) h a b =
-      ap (λ (s : Bool). eqb t (suc x) || (ltb t (suc x) && s))
-      (enough f g (P (suc x)) (omega (arith, falls (suc x) (omega arith) h)) (omega (arith, falls (suc x) (omega arith) h)) (omega (arith, falls (suc x) (omega arith) h)))
+  -- among the numbers up to 256 each step up leads to a smaller one
+  lower : (x : ℕ) → x ≤ 256 → 1 < x → (P x ≤ 256) × (P x < x)
+  lower x h l = let f = falls x (omega arith) h in (omega arith, f)
 
   -- what is met is not above
   side_low : (f x : ℕ) → x ≤ 256 → side_by P f t x ≡ true → t ≤ x
@@ -39,7 +26,7 @@ module _ (P : ℕ → ℕ) (falls : (t : ℕ) → 1 ≤ t → t ≤ 256 → P t 
   side_up zero a b = absurd (omega arith)
   side_up (suc x) a b =
       let f = falls (suc x) a b in
-      ap (λ (s : Bool). eqb t (suc x) || s) (ap (λ (s : Bool). ltb t (suc x) && s) (enough x (P (suc x)) (P (suc x)) (omega arith) (omega arith) (omega arith))
+      ap (λ (s : Bool). eqb t (suc x) || s) (ap (λ (s : Bool). ltb t (suc x) && s) (enough P (λ n. n ≤ 256) lower t low x (P (suc x)) (P (suc x)) (omega arith) (omega arith) (omega arith))
       ∙ elim (cases_Bool (side_by P (P (suc x)) t (P (suc x)))) [
         | inl y ↦ ap (λ (s : Bool). s && side_by P (P (suc x)) t (P (suc x))) (lt-ltb t (suc x) (omega (arith, side_low (P (suc x)) (P (suc x)) (omega arith) y)))
         | inr n ↦ and_right (ltb t (suc x)) _ n ∙ sym n
@@ -60,7 +47,7 @@ chain_more P falls met at t long a b low high = elim (cases_eq t at) [
 -- at the top nothing is left to meet
 pub chain_end : (P : ℕ → ℕ) → ((t : ℕ) → 1 ≤ t → t ≤ 256 → P t < t) → (met : List Bool) (at t : ℕ) → 1 ≤ t → at ≤ 0 → get_or met t false ≡ (get_or met t false || side_by P at t at)
 chain_end P falls met at t low h =
-    sym (or-false (get_or met t false)) ∙ ap (λ (s : Bool). get_or met t false || s) (sym (ap (λ (n : ℕ). side_by P n t n) zero_at ∙ side_none P falls t low 0))
+    sym (or-false (get_or met t false)) ∙ ap (λ (s : Bool). get_or met t false || s) (sym (ap (λ (n : ℕ). side_by P n t n) zero_at ∙ side_none P (λ n. n ≤ 256) (lower P falls t low) t low 0))
   where
     zero_at : at ≡ 0
     zero_at = omega arith

@@ -1,5 +1,5 @@
 -- The measures of a path, said in words, are the ones that the tree of a book computes.
-use Rattle.std.proofs.Common.{◌≡◌, ℕ, zero, suc, ◌+◌, true, sym, ap, ◌∙◌, subst, ap₂, add-one, arith}
+use Rattle.std.proofs.Common.{◌≡◌, ℕ, zero, suc, true, sym, ap, ◌∙◌, subst, ap₂, add-one}
 use Rattle.std.proofs.lemmas.Bool.{cond-true, cond-false, cond_both, both_ways, false_from_ne_true}
 use Rattle.lengths.specs.Figures.{Figures, Laws, AtMost}
 use Rattle.lengths.specs.Order.{same}

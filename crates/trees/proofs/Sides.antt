@@ -10,19 +10,29 @@ and_same : (b : Bool) {c d : Bool} → (b ≡ true → c ≡ d) → (b && c) ≡
 and_same true h = h refl
 and_same false h = refl
 
-module _ {F : Type 0} {k : Figures F} (T : Tree k) where
-  -- to look further up than the tag itself makes no difference
-  enough : (l m e x : ℕ) → 1 ≤ e → Stands T x → x ≤ l → x ≤ m → side_by T.parent l e x ≡ side_by T.parent m e x
+-- going up by P from the numbers of which S holds: from each above 1 to a smaller one of them
+module _ (P : ℕ → ℕ) (S : ℕ → Type 0) (falls : (x : ℕ) → S x → 1 < x → S (P x) × (P x < x)) (e : ℕ) (low : 1 ≤ e) where
+  -- 0 hangs from nothing
+  pub side_none : (f : ℕ) → side_by P f e 0 ≡ false
   unfolding side_by
-  enough zero m e x i s h g = absurd (omega (arith, T.from_one x s))
-  enough (suc l) zero e x i s h g = absurd (omega (arith, T.from_one x s))
-  enough (suc l) (suc m) e x i s h g =
+  side_none zero = refl
+  side_none (suc f) = rw (ne_eqb e 0 (omega arith), le-ltb e 0 (omega arith))
+
+  -- to look further up than the number itself makes no difference
+  pub enough : (l m x : ℕ) → S x → x ≤ l → x ≤ m → side_by P l e x ≡ side_by P m e x
+  unfolding side_by
+  enough zero m zero s h g = sym (side_none m)
+  enough zero m (suc x) s h g = absurd (omega arith)
+  enough (suc l) zero zero s h g = side_none (suc l)
+  enough (suc l) zero (suc x) s h g = absurd (omega arith)
+  enough (suc l) (suc m) x s h g =
       ap (◌||◌ (eqb e x))
       (and_same (ltb e x) (λ t.
       let a : e < x = ltb-true e x t in
-      let b : T.parent x < x = T.up_lower x s (omega arith) in
-      enough l m e (T.parent x) i (T.up_stands x s (omega arith)) (omega arith) (omega arith)))
+      let up = falls x s (omega arith) in
+      enough l m (P x) up.0 (omega (arith, up.1)) (omega (arith, up.1))))
 
+module _ {F : Type 0} {k : Figures F} (T : Tree k) where
   -- a point is on the outer side of its own run
   pub side_self : (e : ℕ) → 1 ≤ e → side T e e ≡ true
   unfolding side side_by
@@ -42,7 +52,8 @@ module _ {F : Type 0} {k : Figures F} (T : Tree k) where
   side_up e (suc n) l s h =
       let b : T.parent (suc n) < suc n = T.up_lower (suc n) s (omega arith) in
       rw (ne_eqb e (suc n) (omega arith), lt-ltb e (suc n) h)
-      (enough n (T.parent (suc n)) e (T.parent (suc n)) l (T.up_stands (suc n) s (omega arith)) (omega arith) (omega arith))
+      (enough T.parent (Stands T) (λ x s l. (T.up_stands x s l, T.up_lower x s l)) e l n (T.parent (suc n)) (T.parent (suc n))
+      (T.up_stands (suc n) s (omega arith)) (omega arith) (omega arith))
 
   -- a point on the outer side of the run e is not smaller than e
   pub side_low : (e x : ℕ) → side T e x ≡ true → e ≤ x
