@@ -9,7 +9,7 @@ use Rattle.trees.proofs.Runs.{is_joined}
 use Rattle.trees.proofs.Passes.{near_common, near_path, near_other}
 use Rattle.plans.specs.declared.sides.Sides.{Sides}
 use Rattle.plans.specs.Drawn.{parent_of, run_of}
-use Rattle.plans.specs.Passing.{Given, up_to}
+use Rattle.plans.specs.Passing.{Given, Common, up_to}
 use Rattle.plans.proofs.Downward.{beyond_of}
 
 module _ {K : Type 0} (k : Figures K) (memory : List K) (parent : ℕ) (one two : Bool) (tag : ℕ) (run : K) where
@@ -78,7 +78,7 @@ module _
     pub up_more : (first memory after : List K) → size ≤ length memory
         → after ≡ up_to k memory (parent_of (read tag)) (get_or sides.first tag false) (get_or sides.last tag false) tag (run_of k (read tag))
         → ((t : ℕ) → tag ≤ t → t ≤ size → get_or memory (t - 1) k.zero ≡ get_or first (t - 1) k.zero)
-        → ((t : ℕ) → 1 ≤ t → t ≤ size → side T t a ≡ true → side T t b ≡ true → get_or first (t - 1) k.zero ≡ beyond_of T a b t)
+        → Common T a b size first
         → ((t : ℕ) → 1 ≤ t → t < tag → Stands T t → get_or memory (t - 1) k.zero ≡ nearest T t a b)
         → (t : ℕ) → 1 ≤ t → t < tag + 1 → Stands T t → get_or after (t - 1) k.zero ≡ nearest T t a b
     up_more first memory after long written kept put done t l less s =

@@ -7,10 +7,12 @@ use books::{Book, State};
 use cells::Column;
 use lengths::Length;
 
-/// The tree of a loom: the state of each tag, as it was read out of the book. Tag 1 has the first place.
+/// The tree of a loom: the state of each tag, as it was read out of the book. Tag 1 has the first place. Sizes go from 1 to 256,
+/// and every parent is smaller than its tag.
+#[derive(Drop)]
 pub(crate) struct Drawing<K> {
     pub(crate) size: usize,
-    pub(crate) states: Column<State<K>>,
+    states: Column<State<K>>,
     ghost fits: { (1 ≤ size) × (size ≤ 256) },
     ghost falling: { Falling (drawn states) },
 }

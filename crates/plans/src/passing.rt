@@ -1,8 +1,8 @@
 // Passes over a tree that give the distance of every point to a path.
-ghost use Rattle.std.specs.Prelude.{◌≡◌, ℕ, ◌-◌, ◌≤◌, true, false, ◌&&◌, List, length, drop as after, if◌then◌else◌, nat_lt, slice_index_or, slice_set};
-ghost use Rattle.trees.proofs.Trees.{Tree, Stands, side, side_by, selected, nearest};
+ghost use Rattle.std.specs.Prelude.{◌≡◌, ℕ, ◌≤◌, false, length, drop as after, slice_index_or};
+ghost use Rattle.trees.proofs.Trees.{Tree, side_by};
 ghost use Rattle.plans.specs.Drawn.{parent_of, run_of, drawn};
-ghost use Rattle.plans.specs.Passing.{Given, up_to};
+ghost use Rattle.plans.specs.Passing.{Given, Common, Near, up_to};
 
 use crate::drawing::Drawing;
 use crate::sides::Sides;
@@ -24,7 +24,7 @@ impl<K: Length> Drawing<K> {
     /// Downwards: at each tag that both ways up meet, how long their common way is from there on.
     pub(crate) fn pass_down(&self, sides: &Sides, memory: &mut [K])
         requires { self.now.size ≤ length memory.old }
-        ensures common { (T : Tree K.figures) (a b : ℕ) → Given T a b self.now.size (drawn self.now.states) sides.now → (t : ℕ) → 1 ≤ t → t ≤ self.now.size → side T t a ≡ true → side T t b ≡ true → slice_index_or memory.new (t - 1) K.figures.zero ≡ selected T (λ e. (side T e a && side T e b) && nat_lt t e) }
+        ensures common { (T : Tree K.figures) (a b : ℕ) → Given T a b self.now.size (drawn self.now.states) sides.now → Common T a b self.now.size memory.new }
         ensures long { length memory.new ≡ length memory.old }
         ensures rest { after self.now.size memory.new ≡ after self.now.size memory.old }
     {
@@ -57,7 +57,7 @@ impl<K: Length> Drawing<K> {
     /// Upwards: with what the pass downwards put down, the distance of every point to the path.
     pub(crate) fn pass_up(&self, sides: &Sides, memory: &mut [K])
         requires { self.now.size ≤ length memory.old }
-        ensures near { (T : Tree K.figures) (a b : ℕ) → Given T a b self.now.size (drawn self.now.states) sides.now → ((t : ℕ) → 1 ≤ t → t ≤ self.now.size → side T t a ≡ true → side T t b ≡ true → slice_index_or memory.old (t - 1) K.figures.zero ≡ selected T (λ e. (side T e a && side T e b) && nat_lt t e)) → (t : ℕ) → Stands T t → slice_index_or memory.new (t - 1) K.figures.zero ≡ nearest T t a b }
+        ensures near { (T : Tree K.figures) (a b : ℕ) → Given T a b self.now.size (drawn self.now.states) sides.now → Common T a b self.now.size memory.old → Near T a b memory.new }
         ensures long { length memory.new ≡ length memory.old }
         ensures rest { after self.now.size memory.new ≡ after self.now.size memory.old }
     {
