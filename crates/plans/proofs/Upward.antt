@@ -6,15 +6,15 @@ use Rattle.lengths.specs.Figures.{Figures, Laws}
 use Rattle.books.specs.declared.states.State.{State}
 use Rattle.trees.proofs.Trees.{Tree, Stands, side, differ, nearest}
 use Rattle.trees.proofs.Runs.{is_joined}
-use Rattle.trees.proofs.Passes.{near_common, near_path, near_other}
+use Rattle.trees.proofs.Passes.{root_side, near_common, near_path, near_other}
 use Rattle.plans.specs.declared.sides.Sides.{Sides}
 use Rattle.plans.specs.Drawn.{parent_of, run_of}
-use Rattle.plans.specs.Passing.{Given, Common, up_to}
+use Rattle.plans.specs.Passing.{Given, Common, Near, up_to}
 use Rattle.plans.proofs.Downward.{beyond_of}
 
 module _ {K : Type 0} (k : Figures K) (memory : List K) (parent : ℕ) (one two : Bool) (tag : ℕ) (run : K) where
   -- the other places are left
-  pub up_other : (i : ℕ) → (i ≡ tag - 1 → ⊥) → get_or (up_to k memory parent one two tag run) i k.zero ≡ get_or memory i k.zero
+  up_other : (i : ℕ) → (i ≡ tag - 1 → ⊥) → get_or (up_to k memory parent one two tag run) i k.zero ≡ get_or memory i k.zero
   up_other i n =
       cond_both (eqb parent 0) _ _ (λ (m : List K). get_or m i k.zero ≡ get_or memory i k.zero) (λ _. refl) (λ _.
       cond_both (one && two) _ _ (λ (m : List K). get_or m i k.zero ≡ get_or memory i k.zero) (λ _. refl) (λ _.
@@ -22,13 +22,13 @@ module _ {K : Type 0} (k : Figures K) (memory : List K) (parent : ℕ) (one two 
       get_or-set_other memory (tag - 1) i _ k.zero n)))
 
   -- nothing is lost, and what lies after the tags is left
-  pub up_long : length (up_to k memory parent one two tag run) ≡ length memory
+  up_long : length (up_to k memory parent one two tag run) ≡ length memory
   up_long =
       cond_both (eqb parent 0) _ _ (λ (m : List K). length m ≡ length memory) (λ _. refl) (λ _.
       cond_both (one && two) _ _ (λ (m : List K). length m ≡ length memory) (λ _. refl) (λ _.
       cond_both (one || two) _ _ (λ (m : List K). length m ≡ length memory) (λ _. length-set memory (tag - 1) k.zero) (λ _. length-set memory (tag - 1) _)))
 
-  pub up_rest : (size : ℕ) → tag - 1 < size → drop size (up_to k memory parent one two tag run) ≡ drop size memory
+  up_rest : (size : ℕ) → tag - 1 < size → drop size (up_to k memory parent one two tag run) ≡ drop size memory
   up_rest size h =
       cond_both (eqb parent 0) _ _ (λ (m : List K). drop size m ≡ drop size memory) (λ _. refl) (λ _.
       cond_both (one && two) _ _ (λ (m : List K). drop size m ≡ drop size memory) (λ _. refl) (λ _.
@@ -42,7 +42,7 @@ module _
     {K : Type 0} {k : Figures K} (laws : Laws k) {T : Tree k} {a b size : ℕ} {read : ℕ → State K} {sides : Sides}
     (given : Given T a b size read sides) (tag : ℕ) (low : 2 ≤ tag) (high : tag ≤ size)
   where
-    pub up_here : Stands T tag → (memory : List K) → size ≤ length memory
+    up_here : Stands T tag → (memory : List K) → size ≤ length memory
         → (side T tag a ≡ true → side T tag b ≡ true → get_or memory (tag - 1) k.zero ≡ beyond_of T a b tag)
         → ((t : ℕ) → 1 ≤ t → t < tag → Stands T t → get_or memory (t - 1) k.zero ≡ nearest T t a b)
         → get_or (up_to k memory (parent_of (read tag)) (get_or sides.first tag false) (get_or sides.last tag false) tag (run_of k (read tag))) (tag - 1) k.zero ≡ nearest T tag a b
@@ -75,7 +75,7 @@ module _
         ]
 
     -- after this tag, every point up to it has its distance
-    pub up_more : (first memory after : List K) → size ≤ length memory
+    up_more : (first memory after : List K) → size ≤ length memory
         → after ≡ up_to k memory (parent_of (read tag)) (get_or sides.first tag false) (get_or sides.last tag false) tag (run_of k (read tag))
         → ((t : ℕ) → tag ≤ t → t ≤ size → get_or memory (t - 1) k.zero ≡ get_or first (t - 1) k.zero)
         → Common T a b size first
@@ -94,3 +94,47 @@ module _
               ∙ ap (λ (n : ℕ). nearest T n a b) (sym e)
           | inr n ↦ up_other k memory p o w tag run (t - 1) (λ e. omega arith) ∙ done t l (omega arith) s
         ]
+
+module _ {K : Type 0} (k : Figures K) (size : ℕ) (read : ℕ → State K) (sides : Sides) (first : List K) where
+  -- on the way up, from the memory that the pass downwards left to this one: the points before the tag n have their distances
+  abbrev pub Raised_to : List K → ℕ → Type 0
+  Raised_to memory n =
+      (length memory ≡ length first) × (drop size memory ≡ drop size first)
+      × ((t : ℕ) → n ≤ t → t ≤ size → get_or memory (t - 1) k.zero ≡ get_or first (t - 1) k.zero)
+      × ((T : Tree k) (a b : ℕ) → Given T a b size read sides → Common T a b size first
+      → (t : ℕ) → 1 ≤ t → t < n → Stands T t → get_or memory (t - 1) k.zero ≡ nearest T t a b)
+
+module _ {K : Type 0} {k : Figures K} (laws : Laws k) (size : ℕ) (read : ℕ → State K) (sides : Sides) (first : List K) where
+  -- at first the root has its own: both ways up meet it
+  pub up_start : Raised_to k size read sides first first 2
+  up_start = (
+    refl,
+    refl,
+    λ t l h. refl,
+    λ T a b given put t low less s.
+        let e : t ≡ 1 = omega arith in
+        let here = ap (λ (n : ℕ). side T n a) e ∙ root_side T a given.first_stands in
+        let there = ap (λ (n : ℕ). side T n b) e ∙ root_side T b given.last_stands in
+        put t low (omega (arith, T.to_high t s, given.high)) here there
+        ∙ sym (near_common laws T t a b s given.first_stands given.last_stands here there),
+  )
+
+  -- one tag more
+  pub up_step : (memory : List K) (tag : ℕ) (after : List K) → size ≤ length first → 2 ≤ tag → tag ≤ size
+      → after ≡ up_to k memory (parent_of (read tag)) (get_or sides.first tag false) (get_or sides.last tag false) tag (run_of k (read tag))
+      → Raised_to k size read sides first memory tag → Raised_to k size read sides first after (tag + 1)
+  up_step memory tag after long low high written was =
+      let p = parent_of (read tag) in
+      let o = get_or sides.first tag false in
+      let w = get_or sides.last tag false in
+      let run = run_of k (read tag) in (
+        ap length written ∙ up_long k memory p o w tag run ∙ was.0,
+        ap (drop size) written ∙ up_rest k memory p o w tag run size (omega arith) ∙ was.1,
+        λ t l h. ap (λ (m : List K). get_or m (t - 1) k.zero) written ∙ up_other k memory p o w tag run (t - 1) (λ e. omega arith) ∙ was.2 t (omega arith) h,
+        λ T a b given put. up_more laws given tag low high first memory after (omega (arith, was.0)) written was.2 put (was.3 T a b given put),
+      )
+
+  -- past the size every point has its own
+  pub up_end : (memory : List K) (n : ℕ) → size < n → Raised_to k size read sides first memory n
+      → (T : Tree k) (a b : ℕ) → Given T a b size read sides → Common T a b size first → Near T a b memory
+  up_end memory n past was T a b given put t s = was.3 T a b given put t (T.from_one t s) (omega (arith, T.to_high t s, given.high)) s
