@@ -14,7 +14,7 @@ module _ (P : ℕ → ℕ) (falls : (t : ℕ) → 1 ≤ t → t ≤ 256 → P t 
   -- what is met is not above
   side_low : (f x : ℕ) → x ≤ 256 → side_by P f t x ≡ true → t ≤ x
   unfolding side_by
-  side_low zero x h e = let z : ◌≡◌ {A = ℕ} 0 1 = cc in absurd (omega arith)
+  side_low zero x h e = cc
   side_low (suc f) x h e = elim (or_cases (eqb t x) (ltb t x && side_by P f t (P x)) e) [
     | inl y ↦ omega (arith, eqb-true t x y)
     | inr y ↦ omega (arith, ltb-true t x (and_parts (ltb t x) (side_by P f t (P x)) y).0)

@@ -90,10 +90,14 @@ module _ {K : Type 0} (k : Figures K) (size : ℕ) (read : ℕ → State K) (sid
 module _ {K : Type 0} {k : Figures K} (laws : Laws k) (size : ℕ) (read : ℕ → State K) (sides : Sides) (first : List K) where
   -- at first nothing is beyond the size
   pub down_start : (beyond : K) → beyond ≡ k.zero → Passed_to k size read sides first first beyond size
-  down_start beyond e = (refl, refl, λ T a b given. (
-    λ low. e ∙ sym (common_none laws T size a b (omega (arith, given.high))),
-    λ t l h p q. absurd (omega arith),
-  ))
+  down_start beyond e = (
+    refl,
+    refl,
+    λ T a b given. (
+      λ low. e ∙ sym (common_none laws T size a b (omega (arith, given.high))),
+      λ t l h p q. absurd (omega arith),
+    ),
+  )
 
   module _
       (memory : List K) (beyond : K) (tag : ℕ) (was : Passed_to k size read sides first memory beyond tag) (long : size ≤ length first)

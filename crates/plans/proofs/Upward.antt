@@ -1,7 +1,8 @@
 -- One tag of the pass upwards.
 use Rattle.std.proofs.Common.{◌≡◌, ℕ, ◌+◌, ◌-◌, ◌<◌, ◌≤◌, Bool, true, false, ◌&&◌, ◌||◌, eqb, List, length, get_or, drop, sym, refl, ap, ◌∙◌, subst, inl, inr, arith}
 use Rattle.std.proofs.lemmas.List.{get_or-set_same, get_or-set_other, length-set, drop-set-lt}
-use Rattle.std.proofs.lemmas.Bool.{cases_Bool, cases_eq, and_parts, cond_both, cond-true, cond-false, not-true, or_parts}
+use Rattle.std.proofs.lemmas.Bool.{cases_Bool, cases_eq, and_parts, cond-true, cond-false, not-true, or_parts}
+use Rattle.std.proofs.lemmas.Bool.Decides.{nat_tests}
 use Rattle.lengths.specs.Figures.{Figures, Laws}
 use Rattle.books.specs.declared.states.State.{State}
 use Rattle.trees.proofs.Trees.{Tree, Stands, side, differ, nearest}
@@ -15,24 +16,14 @@ use Rattle.plans.proofs.Downward.{beyond_of}
 module _ {K : Type 0} (k : Figures K) (memory : List K) (parent : ℕ) (one two : Bool) (tag : ℕ) (run : K) where
   -- the other places are left
   up_other : (i : ℕ) → (i ≡ tag - 1 → ⊥) → get_or (up_to k memory parent one two tag run) i k.zero ≡ get_or memory i k.zero
-  up_other i n =
-      cond_both (eqb parent 0) _ _ (λ (m : List K). get_or m i k.zero ≡ get_or memory i k.zero) (λ _. refl) (λ _.
-      cond_both (one && two) _ _ (λ (m : List K). get_or m i k.zero ≡ get_or memory i k.zero) (λ _. refl) (λ _.
-      cond_both (one || two) _ _ (λ (m : List K). get_or m i k.zero ≡ get_or memory i k.zero) (λ _. get_or-set_other memory (tag - 1) i k.zero k.zero n) (λ _.
-      get_or-set_other memory (tag - 1) i _ k.zero n)))
+  up_other i n = grind (arith, nat_tests, get_or-set_other)
 
   -- nothing is lost, and what lies after the tags is left
   up_long : length (up_to k memory parent one two tag run) ≡ length memory
-  up_long =
-      cond_both (eqb parent 0) _ _ (λ (m : List K). length m ≡ length memory) (λ _. refl) (λ _.
-      cond_both (one && two) _ _ (λ (m : List K). length m ≡ length memory) (λ _. refl) (λ _.
-      cond_both (one || two) _ _ (λ (m : List K). length m ≡ length memory) (λ _. length-set memory (tag - 1) k.zero) (λ _. length-set memory (tag - 1) _)))
+  up_long = grind (arith, nat_tests, length-set)
 
   up_rest : (size : ℕ) → tag - 1 < size → drop size (up_to k memory parent one two tag run) ≡ drop size memory
-  up_rest size h =
-      cond_both (eqb parent 0) _ _ (λ (m : List K). drop size m ≡ drop size memory) (λ _. refl) (λ _.
-      cond_both (one && two) _ _ (λ (m : List K). drop size m ≡ drop size memory) (λ _. refl) (λ _.
-      cond_both (one || two) _ _ (λ (m : List K). drop size m ≡ drop size memory) (λ _. drop-set-lt size memory (tag - 1) k.zero h) (λ _. drop-set-lt size memory (tag - 1) _ h)))
+  up_rest size h = grind (arith, nat_tests, drop-set-lt)
 
 -- two sides that are not both true, one of which is, differ
 apart : (s t : Bool) → (s && t) ≡ false → (s || t) ≡ true → differ s t ≡ true

@@ -19,8 +19,7 @@ module _ {F : Type 0} {k : Figures F} where
 
 -- two figures that are the same where b holds and where it does not
 cond_same : {A : Type 0} {x y z w : A} (b : Bool) → (b ≡ true → x ≡ z) → y ≡ w → cond b x y ≡ cond b z w
-cond_same true h g = h refl
-cond_same false h g = g
+cond_same b h g = grind arith
 
 -- a figure at most another where b holds and where it does not
 cond_le :

@@ -7,8 +7,7 @@ use Rattle.trees.proofs.Runs.{joined_stands, up_lower, later_joined}
 
 -- what follows a test counts only where the test is passed
 and_same : (b : Bool) {c d : Bool} → (b ≡ true → c ≡ d) → (b && c) ≡ (b && d)
-and_same true h = h refl
-and_same false h = refl
+and_same b h = grind arith
 
 -- going up by P from the numbers of which S holds: from each above 1 to a smaller one of them
 module _ (P : ℕ → ℕ) (S : ℕ → Type 0) (falls : (x : ℕ) → S x → 1 < x → S (P x) × (P x < x)) (e : ℕ) (low : 1 ≤ e) where
