@@ -1,7 +1,8 @@
 -- Reading a tree out of a book, one tag after another.
 use Rattle.std.proofs.Common.{◌≡◌, ℕ, ◌+◌, ◌-◌, ◌<◌, ◌≤◌, false, cond, eqb, Result, sym, refl, ap, ◌∙◌, inl, inr, arith}
 use Rattle.std.specs.Result.{result_unwrap_or}
-use Rattle.std.proofs.lemmas.Bool.{cases_Bool, cases_eq, cases_lt, eq-eqb, ne_eqb, cond-true, cond-false, le-ltb}
+use Rattle.std.proofs.lemmas.Bool.{cases_Bool, cases_eq, cases_lt, le-ltb}
+use Rattle.std.proofs.lemmas.Bool.Decides.{nat_tests}
 use Rattle.lengths.specs.Figures.{Figures}
 use Rattle.books.specs.declared.states.State.{State}
 use Rattle.books.specs.declared.states.State.TheVariants.{Blank, Struck, Standing}
@@ -36,16 +37,16 @@ module _ {K : Type 0} {k : Figures K} {size : ℕ} {state : ℕ → State K} (la
       → ((i : ℕ) → i < 256 → tag - 1 < 256 → after i ≡ cond (eqb (tag - 1) i) x (before i))
       → Read_to state (λ t. before (t - 1)) tag → Read_to state (λ t. after (t - 1)) (tag + 1)
   read_more before after tag answer x low high is taken put was = (
-    λ t a b. elim (cases_eq t tag) [
-      | inl e ↦ put (t - 1) (omega (arith, lawful.most)) (omega (arith, lawful.most))
-          ∙ cond-true _ _ _ (eq-eqb (tag - 1) (t - 1) (omega arith)) ∙ looked tag answer x low high is taken ∙ ap state (sym e)
-      | inr n ↦ other t a (omega (arith, lawful.most)) n ∙ was.0 t a (omega arith)
-    ],
-    λ t a b c. other t a c (λ e. omega arith) ∙ was.1 t a (omega arith) c,
+    λ t a b.
+        let p = put (t - 1) (omega (arith, lawful.most)) (omega (arith, lawful.most)) in
+        let q = looked tag answer x low high is taken in
+        let r = was.0 t a in
+        grind (arith, nat_tests),
+    λ t a b c.
+        let p = put (t - 1) (omega arith) (omega (arith, lawful.most)) in
+        let r = was.1 t a (omega arith) c in
+        grind (arith, nat_tests),
   )
-    where
-      other : (t : ℕ) → 1 ≤ t → t ≤ 256 → (t ≡ tag → ⊥) → after (t - 1) ≡ before (t - 1)
-      other t a b n = put (t - 1) (omega arith) (omega (arith, lawful.most)) ∙ cond-false _ _ _ (ne_eqb (tag - 1) (t - 1) (λ e. n (omega arith)))
 
   -- all is read once the size is passed, for beyond it a book is blank
   pub all_read : (read : ℕ → State K) (n : ℕ) → size < n → Read_to state read n → Shows state read

@@ -1,5 +1,5 @@
 -- The sum, over all points, of a figure of each point.
-use Rattle.std.proofs.Common.{◌≡◌, ℕ, zero, suc, ◌*◌, ◌≤◌, Bool, true, false, cond, refl, ap₂, arith}
+use Rattle.std.proofs.Common.{◌≡◌, ℕ, zero, suc, ◌*◌, ◌≤◌, Bool, true, cond, refl, ap₂, arith}
 use Rattle.std.proofs.Math.Nat.{suc-mul}
 use Rattle.std.proofs.lemmas.Bool.{cond_both}
 use Rattle.lengths.specs.Figures.{Figures, Laws, Sum, none, both, AtMost, most_entries}
@@ -24,8 +24,7 @@ cond_same b h g = grind arith
 -- a figure at most another where b holds and where it does not
 cond_le :
     {F : Type 0} (k : Figures F) (b : Bool) (x y z w : F) → (b ≡ true → AtMost k x z) → AtMost k y w → AtMost k (cond b x y) (cond b z w)
-cond_le k true x y z w h g = h refl
-cond_le k false x y z w h g = g
+cond_le k b x y z w h g = grind arith
 
 module _ {F : Type 0} {k : Figures F} (T : Tree k) where
   -- where each figure is a sum of at most m entries, those of n tags come to at most n times m entries

@@ -1,4 +1,4 @@
-use Rattle.std.proofs.Common.{sym, ap, ◌∙◌, arith}
+use Rattle.std.proofs.Common.{arith}
 use Rattle.plans.specs.Drawn.{drawn}
 use Rattle.plans.proofs.Downward.{down_start, down_met, down_past}
 use Rattle.plans.proofs.drawing.Drawing.pass_down.Goals as goal
@@ -18,12 +18,10 @@ loop-tag-preserved g c =
     elim j.branch [
       | then-both w ↦
           down_met laws d.size (drawn d.states) c.args.sides.now c.args.memory.now l.memory l.beyond l.tag l.invariant c.requires
-          c.loop-tag-test.true (omega arith) j.memory j.beyond w.memory-is
-          (w.beyond-is ∙ w.plus-beyond.ensures ∙ ap (λ (x : g.row.K.Denot). g.K.Length.figures.sum x l.beyond) w.run_of.ensures)
-          (sym w.if-both.true ∙ c.both.ensures)
+          c.loop-tag-test.true (omega arith) j.memory j.beyond w.memory-is (cc) (cc)
       | else-both w ↦
           down_past laws d.size (drawn d.states) c.args.sides.now c.args.memory.now l.memory l.beyond l.tag l.invariant c.requires
-          c.loop-tag-test.true (omega arith) j.memory j.beyond w.memory-is w.beyond-is (sym w.if-both.false ∙ c.both.ensures)
+          c.loop-tag-test.true (omega arith) j.memory j.beyond w.memory-is w.beyond-is (cc)
     ]
 
 pub returns-clause-common : goal.returns-clause-common
