@@ -39,7 +39,7 @@ module _
     Met met = met ≡ (get_or sides.first tag false && get_or sides.last tag false)
 
     sides_as : {met : Bool} → Met met → met ≡ (side T tag a && side T tag b)
-    sides_as is = is ∙ ap (λ (s : Bool). s && get_or sides.last tag false) (given.first_met tag low high) ∙ ap (λ (s : Bool). side T tag a && s) (given.last_met tag low high)
+    sides_as is = rw (← given.first_met tag low high, ← given.last_met tag low high) is
 
     -- where both meet it, its run is added to what is beyond it
     met_beyond : Met true → 1 ≤ tag - 1 → k.sum (run_of k (read tag)) (beyond_of T a b tag) ≡ beyond_of T a b (tag - 1)
@@ -47,8 +47,8 @@ module _
         let p = and_parts (side T tag a) (side T tag b) (sym (sides_as is)) in
         let j = met_joined T tag (omega arith) a given.first_stands p.0 in
         let up : suc (tag - 1) ≡ tag = omega arith in
-        ap (λ (r : K). k.sum r (beyond_of T a b tag)) (sym (given.run tag j))
-        ∙ sym (subst (λ (n : ℕ). Joined T n → side T n a ≡ true → side T n b ≡ true → beyond_of T a b (tag - 1) ≡ k.sum (T.run n) (beyond_of T a b n)) up (common_step laws T (tag - 1) a b) j p.0 p.1)
+        rw (← given.run tag j)
+        (sym (subst (λ (n : ℕ). Joined T n → side T n a ≡ true → side T n b ≡ true → beyond_of T a b (tag - 1) ≡ k.sum (T.run n) (beyond_of T a b n)) up (common_step laws T (tag - 1) a b) j p.0 p.1))
 
     -- elsewhere nothing is
     past_beyond : Met false → beyond_of T a b tag ≡ beyond_of T a b (tag - 1)
@@ -64,17 +64,14 @@ module _
         -- where both meet it, what is beyond it is put down
         met_memory : get_or (set memory (tag - 1) (beyond_of T a b tag)) (t - 1) k.zero ≡ beyond_of T a b t
         met_memory = elim (cases_eq t tag) [
-          | inl e ↦
-              ap (λ (n : ℕ). get_or (set memory (tag - 1) (beyond_of T a b tag)) (n - 1) k.zero) e
-              ∙ get_or-set_same memory (tag - 1) (beyond_of T a b tag) k.zero (omega arith) ∙ ap (beyond_of T a b) (sym e)
+          | inl e ↦ rw e (get_or-set_same memory (tag - 1) (beyond_of T a b tag) k.zero (omega arith))
           | inr n ↦ get_or-set_other memory (tag - 1) (t - 1) (beyond_of T a b tag) k.zero (λ e. omega arith) ∙ old t (omega arith) h p q
         ]
 
         -- elsewhere nothing is
         past_memory : Met false → get_or memory (t - 1) k.zero ≡ beyond_of T a b t
         past_memory is = elim (cases_eq t tag) [
-          | inl e ↦ absurd (both_ways (side T tag a && side T tag b) (sym (sides_as is))
-              (and_from (side T tag a) (side T tag b) (ap (λ (n : ℕ). side T n a) (sym e) ∙ p) (ap (λ (n : ℕ). side T n b) (sym e) ∙ q)))
+          | inl e ↦ absurd (both_ways (side T tag a && side T tag b) (sym (sides_as is)) (and_from (side T tag a) (side T tag b) (rw e at p) (rw e at q)))
           | inr n ↦ old t (omega arith) h p q
         ]
 

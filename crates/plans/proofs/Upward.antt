@@ -1,7 +1,7 @@
 -- One tag of the pass upwards.
-use Rattle.std.proofs.Common.{◌≡◌, ℕ, ◌+◌, ◌-◌, ◌<◌, ◌≤◌, Bool, true, false, ◌&&◌, ◌||◌, eqb, List, length, get_or, drop, sym, refl, ap, ◌∙◌, subst, inl, inr, arith}
+use Rattle.std.proofs.Common.{◌≡◌, ℕ, ◌+◌, ◌-◌, ◌<◌, ◌≤◌, Bool, true, false, ◌&&◌, ◌||◌, eqb, List, length, get_or, drop, sym, refl, ap, ◌∙◌, inl, inr, arith}
 use Rattle.std.proofs.lemmas.List.{get_or-set_same, get_or-set_other, length-set, drop-set-lt}
-use Rattle.std.proofs.lemmas.Bool.{cases_Bool, cases_eq, and_parts, cond-true, cond-false, not-true, or_parts}
+use Rattle.std.proofs.lemmas.Bool.{cases_Bool, cases_eq, and_parts, not-true, or_parts}
 use Rattle.std.proofs.lemmas.Bool.Decides.{nat_tests}
 use Rattle.lengths.specs.Figures.{Figures, Laws}
 use Rattle.books.specs.declared.states.State.{State}
@@ -46,22 +46,21 @@ module _
         let ew = given.last_met tag (omega arith) high in
         let up : eqb p 0 ≡ false = not-true (eqb p 0) (sym (given.stands tag low high) ∙ s) in
         let j = is_joined T s (omega arith) in
-        ap (λ (m : List K). get_or m (tag - 1) k.zero) (cond-false _ _ _ up) ∙ elim (cases_Bool (o && w)) [
+        elim (cases_Bool (o && w)) [
           | inl y ↦
               let q = and_parts o w y in
-              ap (λ (m : List K). get_or m (tag - 1) k.zero) (cond-true _ _ _ y) ∙ common (sym eo ∙ q.0) (sym ew ∙ q.1)
-              ∙ sym (near_common laws T tag a b s given.first_stands given.last_stands (sym eo ∙ q.0) (sym ew ∙ q.1))
-          | inr n ↦ ap (λ (m : List K). get_or m (tag - 1) k.zero) (cond-false _ _ _ n) ∙ elim (cases_Bool (o || w)) [
+              let here = sym eo ∙ q.0 in
+              let there = sym ew ∙ q.1 in
+              rw (up, y) (common here there ∙ sym (near_common laws T tag a b s given.first_stands given.last_stands here there))
+          | inr n ↦ elim (cases_Bool (o || w)) [
             | inl y ↦
-                ap (λ (m : List K). get_or m (tag - 1) k.zero) (cond-true _ _ _ y) ∙ get_or-set_same memory (tag - 1) k.zero k.zero (omega arith)
-                ∙ sym (near_path laws T tag a b s given.first_stands given.last_stands (ap (λ (x : Bool). differ x (side T tag b)) (sym eo) ∙ ap (differ o) (sym ew) ∙ apart o w n y))
+                rw (up, n, y, get_or-set_same memory (tag - 1) k.zero k.zero (omega arith))
+                (sym (near_path laws T tag a b s given.first_stands given.last_stands (rw (← eo, ← ew) (apart o w n y))))
             | inr f ↦
                 let q = or_parts o w f in
-                let e : T.parent tag ≡ p = given.parent tag j in
-                ap (λ (m : List K). get_or m (tag - 1) k.zero) (cond-false _ _ _ f) ∙ get_or-set_same memory (tag - 1) _ k.zero (omega arith)
-                ∙ ap (λ (x : K). k.sum x run) (ap (λ (x : ℕ). get_or memory (x - 1) k.zero) (sym e) ∙ before (T.parent tag) (T.from_one _ (T.up_stands tag s low)) (T.up_lower tag s low) (T.up_stands tag s low))
-                ∙ ap (k.sum (nearest T (T.parent tag) a b)) (sym (given.run tag j))
-                ∙ sym (near_other laws T tag a b s given.first_stands given.last_stands (sym eo ∙ q.0) (sym ew ∙ q.1))
+                let above = before (T.parent tag) (T.from_one _ (T.up_stands tag s low)) (T.up_lower tag s low) (T.up_stands tag s low) in
+                rw (up, n, f, get_or-set_same memory (tag - 1) (k.sum (get_or memory (p - 1) k.zero) run) k.zero (omega arith), ← given.parent tag j, above, ← given.run tag j)
+                (sym (near_other laws T tag a b s given.first_stands given.last_stands (sym eo ∙ q.0) (sym ew ∙ q.1)))
           ]
         ]
 
@@ -77,14 +76,11 @@ module _
         let o = get_or sides.first tag false in
         let w = get_or sides.last tag false in
         let run = run_of k (read tag) in
-        ap (λ (m : List K). get_or m (t - 1) k.zero) written ∙ elim (cases_eq t tag) [
+        rw written (elim (cases_eq t tag) [
           | inl e ↦
-              ap (λ (n : ℕ). get_or (up_to k memory p o w tag run) (n - 1) k.zero) e
-              ∙ up_here (subst (λ (n : ℕ). Stands T n) e s) memory long
-              (λ x y. kept tag (omega arith) (omega arith) ∙ put tag (omega arith) (omega arith) x y) done
-              ∙ ap (λ (n : ℕ). nearest T n a b) (sym e)
+              rw e (up_here (rw e at s) memory long (λ x y. kept tag (omega arith) (omega arith) ∙ put tag (omega arith) (omega arith) x y) done)
           | inr n ↦ up_other k memory p o w tag run (t - 1) (λ e. omega arith) ∙ done t l (omega arith) s
-        ]
+        ])
 
 module _ {K : Type 0} (k : Figures K) (size : ℕ) (read : ℕ → State K) (sides : Sides) (first : List K) where
   -- on the way up, from the memory that the pass downwards left to this one: the points before the tag n have their distances
