@@ -16,8 +16,9 @@ impl<T: Copy> Column<T> {
     pub fn filled(item: T) -> Column<T>
         ensures { (i : ℕ) → held result i ≡ item }
     {
-        let cells = Cells::filled(item);
-        Column { cells }
+        Column {
+            cells: Cells::filled(item),
+        }
     }
 
     /// The value at a number.

@@ -1,7 +1,6 @@
 // Cells as nested fours.
-ghost use Rattle.std.specs.Prelude.{◌*◌, ◌/◌, ◌%◌, true, ◌&&◌, ◌==◌};
+ghost use Rattle.std.specs.Prelude.{◌*◌, ◌/◌, ◌%◌};
 ghost use Rattle.cells.specs.Fours.{of_four};
-ghost use Rattle.std.proofs.Common.{rules};
 
 use crate::interface::Cells;
 
@@ -28,13 +27,7 @@ impl<T: Copy> Cells for One<T> {
 
     ghost count = { 1 };
 
-    ghost same = { λ i j. true };
-
     ghost at = { λ c i. c.item };
-
-    ghost itself = { Prim.search rules };
-
-    ghost apart = { Prim.search rules };
 
     fn filled(item: T) -> One<T> {
         One { item }
@@ -54,13 +47,7 @@ impl<C: Cells> Cells for Four<C> {
 
     ghost count = { C.Cells.count * 4 };
 
-    ghost same = { λ i j. (i % 4 == j % 4) && C.Cells.same (i / 4) (j / 4) };
-
     ghost at = { λ c i. C.Cells.at (of_four c.a c.b c.c c.d (i % 4)) (i / 4) };
-
-    ghost itself = { Prim.search rules };
-
-    ghost apart = { Prim.search rules };
 
     fn filled(item: C::Item) -> Four<C> {
         let part = C::filled(item);

@@ -1,5 +1,5 @@
 // The interface of cells, from which a column is built.
-ghost use Rattle.std.specs.Prelude.{◌≡◌, ℕ, ◌<◌, Bool, true, if◌then◌else◌};
+ghost use Rattle.std.specs.Prelude.{◌≡◌, ℕ, ◌<◌, if◌then◌else◌, nat_eq};
 
 /// A fixed number of places, each with a value. A place is named by a number; past the last place the numbers begin again
 /// with the first, so that every number names one.
@@ -9,9 +9,6 @@ pub trait Cells: Copy {
 
     // How many places there are.
     ghost count: { ℕ };
-
-    // Whether two numbers name one place.
-    ghost same: { ℕ → ℕ → Bool };
 
     // What the place of a number holds.
     ghost at: { Self → ℕ → Self.Item };
@@ -26,10 +23,5 @@ pub trait Cells: Copy {
 
     /// Puts a value into a place, and leaves the others.
     fn put(&mut self, index: usize, item: Self::Item)
-        ensures { (i : ℕ) → at self.new i ≡ (if same index i then item else at self.old i) };
-
-    // A number names the place that it names, and no two numbers below the count name one place.
-    ghost itself: { (i : ℕ) → same i i ≡ true };
-
-    ghost apart: { (i j : ℕ) → i < count → j < count → same i j ≡ true → i ≡ j };
+        ensures { (i : ℕ) → i < count → index < count → at self.new i ≡ (if nat_eq index i then item else at self.old i) };
 }

@@ -1,34 +1,70 @@
--- One tag more that was read out of a book.
-use Rattle.std.proofs.Common.{◌≡◌, ℕ, ◌+◌, ◌-◌, ◌<◌, ◌≤◌, cond, eqb, List, length, get_or, set, sym, ap, ◌∙◌, inl, inr, arith}
-use Rattle.std.proofs.lemmas.List.{get_or-set_same, get_or-set_other}
-use Rattle.std.proofs.lemmas.Bool.{cases_eq, eq-eqb, ne_eqb, cond-true, cond-false}
+-- Reading a tree out of a book, one tag after another.
+use Rattle.std.proofs.Common.{◌≡◌, ℕ, ◌+◌, ◌-◌, ◌<◌, ◌≤◌, false, cond, eqb, Result, sym, refl, ap, ◌∙◌, inl, inr, arith}
+use Rattle.std.specs.Result.{result_unwrap_or}
+use Rattle.std.proofs.lemmas.Bool.{cases_Bool, cases_eq, cases_lt, le-ltb}
+use Rattle.std.proofs.lemmas.Bool.Decides.{nat_tests}
 use Rattle.lengths.specs.Figures.{Figures}
 use Rattle.books.specs.declared.states.State.{State}
-use Rattle.plans.specs.Drawn.{parent_of, run_of, drop_of, Read}
+use Rattle.books.specs.declared.states.State.TheVariants.{Blank, Struck, Standing}
+use Rattle.books.specs.declared.causes.Refused.{Refused}
+use Rattle.books.specs.Causes.{answered, first_cause, look_causes}
+use Rattle.books.specs.States.{stands, Lawful}
+use Rattle.plans.specs.Drawn.{parent_of, Shows, Falling}
+use Rattle.plans.proofs.Loom.{tied_as}
 
 module _ {K : Type 0} where
-  -- what a column holds at the place of a tag after one value was put
-  put_here : (before after : ℕ → K) (tag t : ℕ) (x : K) → 1 ≤ tag → tag < 257 → ((i : ℕ) → i < 256 → tag - 1 < 256 → after i ≡ cond (eqb (tag - 1) i) x (before i)) → t ≡ tag → after (t - 1) ≡ x
-  put_here before after tag t x a b put e = put (t - 1) (omega arith) (omega arith) ∙ cond-true _ _ _ (eq-eqb (tag - 1) (t - 1) (ap (λ (n : ℕ). n - 1) (sym e)))
+  -- the tags before n are read as they are in the book, and the others are blank
+  abbrev pub Read_to : (ℕ → State K) → (ℕ → State K) → ℕ → Type 0
+  Read_to state read n =
+      ((t : ℕ) → 1 ≤ t → t < n → read t ≡ state t) × ((t : ℕ) → 1 ≤ t → n ≤ t → t ≤ 256 → read t ≡ Blank)
 
-  put_there : (before after : ℕ → K) (tag t : ℕ) (x : K) → 1 ≤ tag → tag < 257 → ((i : ℕ) → i < 256 → tag - 1 < 256 → after i ≡ cond (eqb (tag - 1) i) x (before i)) → 1 ≤ t → t < tag → after (t - 1) ≡ before (t - 1)
-  put_there before after tag t x a b put low less = put (t - 1) (omega arith) (omega arith) ∙ cond-false _ _ _ (ne_eqb (tag - 1) (t - 1) (λ e. omega arith))
+  -- what does not stand has no parent
+  parent_none : (s : State K) → stands s ≡ false → parent_of s ≡ 0
+  parent_none Blank f = refl
+  parent_none Struck f = refl
+  parent_none (Standing p r d) f = cc
 
-  pub read_more : (k : Figures K) (state : ℕ → State K) (parents : List ℕ) (runs runs' drops drops' : ℕ → K) (tag p : ℕ) (r d : K)
-      → 1 ≤ tag → tag < 257 → length parents ≡ 257 → p ≡ parent_of (state tag) → r ≡ run_of k (state tag) → d ≡ drop_of k (state tag)
-      → ((i : ℕ) → i < 256 → tag - 1 < 256 → runs' i ≡ cond (eqb (tag - 1) i) r (runs i))
-      → ((i : ℕ) → i < 256 → tag - 1 < 256 → drops' i ≡ cond (eqb (tag - 1) i) d (drops i))
-      → ((t : ℕ) → 1 ≤ t → t < tag → Read k (state t) t parents runs drops)
-      → (t : ℕ) → 1 ≤ t → t < tag + 1 → Read k (state t) t (set parents tag p) runs' drops'
-  read_more k state parents runs runs' drops drops' tag p r d a b long ep er ed put put' was t low less = elim (cases_eq t tag) [
-    | inl e ↦ record {
-      parent = ap (λ (n : ℕ). get_or (set parents tag p) n 0) e ∙ get_or-set_same parents tag p 0 (omega arith) ∙ ep ∙ ap (λ (n : ℕ). parent_of (state n)) (sym e);
-      run = put_here runs runs' tag t r a b put e ∙ er ∙ ap (λ (n : ℕ). run_of k (state n)) (sym e);
-      drop = put_here drops drops' tag t d a b put' e ∙ ed ∙ ap (λ (n : ℕ). drop_of k (state n)) (sym e);
-    }
-    | inr n ↦ let h = was t low (omega arith) in record {
-      parent = get_or-set_other parents tag t p 0 n ∙ h.parent;
-      run = put_there runs runs' tag t r a b put low (omega arith) ∙ h.run;
-      drop = put_there drops drops' tag t d a b put' low (omega arith) ∙ h.drop;
-    }
+module _ {K : Type 0} {k : Figures K} {size : ℕ} {state : ℕ → State K} (lawful : Lawful k size state) where
+  -- a tag from 1 to the size is answered with its state
+  looked : (tag : ℕ) (answer : Result (State K) Refused) (x : State K) → 1 ≤ tag → tag ≤ size
+      → answer ≡ answered tag (state tag) (first_cause (look_causes size tag)) → x ≡ result_unwrap_or answer Blank → x ≡ state tag
+  looked tag answer x low high is taken =
+      taken ∙ ap (λ (r : Result (State K) Refused). result_unwrap_or r Blank) is ∙ rw (le-ltb tag 1 low, le-ltb size tag high) refl
+
+  -- one tag more is read
+  pub read_more : (before after : ℕ → State K) (tag : ℕ) (answer : Result (State K) Refused) (x : State K) → 1 ≤ tag → tag ≤ size
+      → answer ≡ answered tag (state tag) (first_cause (look_causes size tag)) → x ≡ result_unwrap_or answer Blank
+      → ((i : ℕ) → i < 256 → tag - 1 < 256 → after i ≡ cond (eqb (tag - 1) i) x (before i))
+      → Read_to state (λ t. before (t - 1)) tag → Read_to state (λ t. after (t - 1)) (tag + 1)
+  read_more before after tag answer x low high is taken put was = (
+    λ t a b.
+        let p = put (t - 1) (omega (arith, lawful.most)) (omega (arith, lawful.most)) in
+        let q = looked tag answer x low high is taken in
+        let r = was.0 t a in
+        grind (arith, nat_tests),
+    λ t a b c.
+        let p = put (t - 1) (omega arith) (omega (arith, lawful.most)) in
+        let r = was.1 t a (omega arith) c in
+        grind (arith, nat_tests),
+  )
+
+  -- all is read once the size is passed, for beyond it a book is blank
+  pub all_read : (read : ℕ → State K) (n : ℕ) → size < n → Read_to state read n → Shows state read
+  all_read read n past was t low high = elim (cases_lt t n) [
+    | inl l ↦ was.0 t low l
+    | inr l ↦ was.1 t low (omega arith) high ∙ sym (lawful.beyond t (omega arith))
   ]
+
+  -- in a book every parent is smaller than its tag
+  falls : (t : ℕ) → 1 ≤ t → parent_of (state t) < t
+  falls t low = elim (cases_eq t 1) [
+    | inl e ↦ omega (arith, ap (λ (u : ℕ). parent_of (state u)) e ∙ ap parent_of lawful.root)
+    | inr n ↦ elim (cases_Bool (stands (state t))) [
+      | inl s ↦ (tied_as lawful t s n).smaller
+      | inr f ↦ omega (arith, parent_none (state t) f)
+    ]
+  ]
+
+  -- and so in what was read out of it
+  pub shows_falling : (read : ℕ → State K) → Shows state read → Falling read
+  shows_falling read shows t low high = omega (arith, ap parent_of (shows t low high), falls t low)

@@ -1,5 +1,5 @@
 -- The greatest of a figure of each point of a tree is the figure of a point; and reaches of paths of one point, and of turned paths.
-use Rattle.std.proofs.Common.{◌≡◌, ℕ, Bool, true, false, ◌&&◌, ◌⊎◌, sym, refl, ◌∙◌, subst, inl, inr}
+use Rattle.std.proofs.Common.{◌≡◌, ℕ, Bool, ◌&&◌, ◌⊎◌, sym, refl, ◌∙◌, subst, inl, inr, arith}
 use mathlib.Core.Bool.{beq}
 use Rattle.lengths.specs.Figures.{Figures, Laws, AtMost}
 use Rattle.lengths.specs.Order.{same}
@@ -11,15 +11,11 @@ use Rattle.trees.proofs.Reaches.{greatest_to, greatest_from, greatest_at_most}
 
 -- where two sides are one, what is off them is on the other side
 off_one : (s u : Bool) → (beq s s && differ u s) ≡ differ u s
-off_one true u = refl
-off_one false u = refl
+off_one s u = grind arith
 
 -- what is off two sides is off them in the other order
 off_turn : (s t u : Bool) → (beq s t && differ u s) ≡ (beq t s && differ u t)
-off_turn true true u = refl
-off_turn true false u = refl
-off_turn false true u = refl
-off_turn false false u = refl
+off_turn s t u = grind arith
 
 module _ {F : Type 0} {k : Figures F} (laws : Laws k) (T : Tree k) where
   -- the greatest of a figure of each point is that of some point: the root stands, and no figure is below zero

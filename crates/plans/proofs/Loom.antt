@@ -12,8 +12,8 @@ use Rattle.plans.specs.Drawn.{parent_of, run_of, drop_of, drop_at}
 module _ {K : Type 0} where
   -- a state that stands is what its parent, run and drop say
   pub as_standing : (k : Figures K) (s : State K) → stands s ≡ true → s ≡ Standing (parent_of s) (run_of k s) (drop_of k s)
-  as_standing k Blank h = let z : ◌≡◌ {A = ℕ} 0 1 = cc in absurd (omega arith)
-  as_standing k Struck h = let z : ◌≡◌ {A = ℕ} 0 1 = cc in absurd (omega arith)
+  as_standing k Blank h = cc
+  as_standing k Struck h = cc
   as_standing k (Standing p r d) h = refl
 
 module _ {K : Type 0} {k : Figures K} {size : ℕ} {state : ℕ → State K} (lawful : Lawful k size state) where

@@ -1,12 +1,11 @@
 -- The measures of a path, said in words, are the ones that the tree of a book computes.
-use Rattle.std.proofs.Common.{◌≡◌, ℕ, zero, suc, ◌+◌, true, sym, ap, ◌∙◌, subst, ap₂, arith}
-use Rattle.std.proofs.lemmas.Bool.{cond-true, cond-false, cond_both, both_ways}
+use Rattle.std.proofs.Common.{◌≡◌, ℕ, zero, suc, true, sym, ap, ◌∙◌, subst, ap₂, add-one}
+use Rattle.std.proofs.lemmas.Bool.{cond-true, cond-false, cond_both, both_ways, false_from_ne_true}
 use Rattle.lengths.specs.Figures.{Figures, Laws, AtMost}
 use Rattle.lengths.specs.Order.{same}
 use Rattle.books.specs.declared.states.State.{State}
 use Rattle.books.specs.States.{stands, Lawful}
 use Rattle.trees.proofs.Trees.{On, distance, nearest, path_reach}
-use Rattle.trees.proofs.TwoSides.{is_false}
 use Rattle.trees.proofs.Medians.{medians}
 use Rattle.trees.proofs.Nearest.{nearest_at_median, nearest_least}
 use Rattle.trees.proofs.Reaches.{greatest_from}
@@ -17,10 +16,6 @@ use Rattle.plans.proofs.Loom.{tree_of, state_as}
 use Rattle.plans.specs.Drawn.{drop_of, drop_at}
 use Rattle.plans.proofs.WaysThere.{way_there, way_length, among_on, on_among}
 use Rattle.plans.proofs.Greatest.{attained}
-
--- the number after n is n and one
-one_more : (n : ℕ) → suc n ≡ n + 1
-one_more n = omega arith
 
 module _ {K : Type 0} {k : Figures K} {size : ℕ} {state : ℕ → State K} (lawful : Lawful k size state) where
   -- a point of a path is on the computed way
@@ -126,7 +121,7 @@ module _ {K : Type 0} {k : Figures K} {size : ℕ} {state : ℕ → State K} (la
     total_is (other {n = n} off rest) =
         let old = sum_below (tree_of lawful) (to_path lawful a b) (suc n) in
         total_is rest
-        ∙ sym (cond-false (stands (state (suc n))) (k.sum old (to_path lawful a b (suc n))) old (is_false (stands (state (suc n))) off))
+        ∙ sym (cond-false (stands (state (suc n))) (k.sum old (to_path lawful a b (suc n))) old (false_from_ne_true (stands (state (suc n))) off))
 
     -- the computed sum is the total over the points with tags up to n
     pub total_from : (n : ℕ) → Total k state a b n (sum_below (tree_of lawful) (to_path lawful a b) (suc n))
@@ -143,10 +138,10 @@ module _ {K : Type 0} {k : Figures K} {size : ℕ} {state : ℕ → State K} (la
     -- the total over all points is the computed sum over all points
     pub all_is : (x : K) → Total k state a b size x → x ≡ sum_over (tree_of lawful) (to_path lawful a b)
     unfolding sum_over
-    all_is x h = total_is h ∙ ap (sum_below (tree_of lawful) (to_path lawful a b)) (one_more size)
+    all_is x h = total_is h ∙ ap (sum_below (tree_of lawful) (to_path lawful a b)) (sym (add-one size))
 
     -- the computed sum over all points is the total over all points
     pub all_from : Total k state a b size (sum_over (tree_of lawful) (to_path lawful a b))
     unfolding sum_over
     all_from =
-        subst (λ (n : ℕ). Total k state a b size (sum_below (tree_of lawful) (to_path lawful a b) n)) (one_more size) (total_from size)
+        subst (λ (n : ℕ). Total k state a b size (sum_below (tree_of lawful) (to_path lawful a b) n)) (sym (add-one size)) (total_from size)

@@ -1,8 +1,10 @@
 -- A tree that was read out of a book.
-use Rattle.std.specs.Prelude.{◌≡◌, ℕ, ◌-◌, ◌<◌, ◌≤◌, List, slice_index, slice_index_or}
+use Rattle.std.specs.Prelude.{◌≡◌, ℕ, ◌-◌, ◌<◌, ◌≤◌}
 use Rattle.lengths.specs.Figures.{Figures}
 use Rattle.books.specs.declared.states.State.{State}
 use Rattle.books.specs.declared.states.State.TheVariants.{Blank, Struck, Standing}
+use Rattle.cells.specs.declared.columns.Column.{Column}
+use Rattle.cells.specs.Columns.{held}
 
 module _ {K : Type 0} where
   -- the parent that a state gives; 0 where it does not stand
@@ -27,16 +29,14 @@ module _ {K : Type 0} where
   abbrev pub drop_at : Figures K → (ℕ → State K) → ℕ → K
   drop_at k state t = drop_of k (state t)
 
--- what was read of the tag t: its parent, its run and its drop, each in its place
-pub record Read {K : Type 0} (k : Figures K) (state : State K) (t : ℕ) (parents : List ℕ) (runs drops : ℕ → K) : Type 0 where
-  pub parent : slice_index_or parents t 0 ≡ parent_of state
-  pub run : runs (t - 1) ≡ run_of k state
-  pub drop : drops (t - 1) ≡ drop_of k state
+  -- the state that was read of the tag t: tag 1 has the first place
+  abbrev pub drawn : Column (State K) → ℕ → State K
+  drawn states t = held states (t - 1)
 
--- every tag was read
-abbrev pub Shows : {K : Type 0} → Figures K → (ℕ → State K) → List ℕ → (ℕ → K) → (ℕ → K) → Type 0
-Shows k state parents runs drops = (t : ℕ) → 1 ≤ t → t ≤ 256 → Read k (state t) t parents runs drops
+  -- every tag was read as it is in the book
+  abbrev pub Shows : (ℕ → State K) → (ℕ → State K) → Type 0
+  Shows state read = (t : ℕ) → 1 ≤ t → t ≤ 256 → read t ≡ state t
 
--- every parent is smaller than its tag
-abbrev pub Falling : List ℕ → Type 0
-Falling parents = (t : ℕ) → 1 ≤ t → t ≤ 256 → slice_index parents t < t
+  -- every parent is smaller than its tag
+  abbrev pub Falling : (ℕ → State K) → Type 0
+  Falling read = (t : ℕ) → 1 ≤ t → t ≤ 256 → parent_of (read t) < t

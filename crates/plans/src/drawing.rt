@@ -1,61 +1,90 @@
-// Reading the tree of a loom out of its book.
-ghost use Rattle.std.specs.Prelude.{◌≡◌, ℕ, ◌-◌, ◌<◌, ◌≤◌, cond};
-ghost use Rattle.cells.specs.Columns.{held};
-ghost use Rattle.plans.specs.Drawn.{parent_of, run_of, drop_of, Read, Shows};
+// The tree of a loom, as it was read out of its book.
+ghost use Rattle.std.specs.Prelude.{◌≡◌, ℕ, ◌<◌, ◌≤◌, false, slice_index_or};
+ghost use Rattle.plans.specs.Drawn.{parent_of, run_of, drop_of, drawn, Shows, Falling};
+ghost use Rattle.trees.proofs.Trees.{side_by};
 
 use books::{Book, State};
 use cells::Column;
 use lengths::Length;
 
-/// The state of a tag from 1 on, and blank beyond the size.
-fn state_of<B: Book>(book: &B, tag: u32) -> State<B::Kind>
-    ensures { 1 ≤ tag → result ≡ B.Book.state book.now tag }
-{
-    if tag > book.size() {
-        return State::Blank;
-    }
-    match book.look(tag) {
-        Ok(state) => state,
-        Err(_) => State::Blank,
-    }
+/// The tree of a loom: the state of each tag, as it was read out of the book. Tag 1 has the first place. Sizes go from 1 to 256,
+/// and every parent is smaller than its tag.
+#[derive(Drop)]
+pub(crate) struct Drawing<K> {
+    pub(crate) size: usize,
+    states: Column<State<K>>,
+    ghost fits: { (1 ≤ size) × (size ≤ 256) },
+    ghost falling: { Falling (drawn states) },
 }
 
-/// The parent that a state gives; 0 where it does not stand.
-fn parent_of<K: Copy>(state: State<K>) -> u32
-    ensures { result ≡ parent_of state }
+/// Reads every tag of a book, once. Beyond the size they are blank.
+fn states_of<B: Book>(book: &B) -> Column<State<B::Kind>>
+    ensures { Shows (B.Book.state book.now) (drawn result) }
 {
-    match state {
-        State::Standing { parent, .. } => parent,
-        State::Struck => 0,
-        State::Blank => 0,
+    let size = book.size();
+    let mut states = Column::filled(State::Blank);
+    for tag in 1..=size {
+        let state = book.look(tag).unwrap_or(State::Blank);
+        states.put(tag as usize - 1, state);
     }
+    states
 }
 
-/// The run and the drop that a state gives; zero where it does not stand.
-fn lengths_of<K: Length>(state: State<K>) -> (K, K)
-    ensures { (result.0 ≡ run_of K.figures state) × (result.1 ≡ drop_of K.figures state) }
-{
-    match state {
-        State::Standing { run, drop, .. } => (run, drop),
-        State::Struck => (K::zero(), K::zero()),
-        State::Blank => (K::zero(), K::zero()),
+impl<K: Length> Drawing<K> {
+    /// The tree of the loom that a book keeps.
+    pub(crate) fn of<B: Book<Kind = K>>(book: &B) -> Drawing<K>
+        ensures size { result.size ≡ B.Book.extent book.now }
+        ensures shows { Shows (B.Book.state book.now) (drawn result.states) }
+    {
+        let size = book.size() as usize;
+        let states = states_of(book);
+        Drawing { size, states }
     }
-}
 
-/// Reads every tag of a book, once.
-pub(crate) fn draw<B: Book>(
-    book: &B,
-    parents: &mut [u32; 257],
-    runs: &mut Column<B::Kind>,
-    drops: &mut Column<B::Kind>,
-)
-    ensures { Shows B.Kind.Length.figures (B.Book.state book.now) parents.new (held runs.new) (held drops.new) }
-{
-    for tag in 1..257 {
-        let state = state_of(book, tag as u32);
-        let (run, drop) = lengths_of(state);
-        parents[tag] = parent_of(state);
-        runs.put(tag - 1, run);
-        drops.put(tag - 1, drop);
+    /// The parent of a tag; 0 where it does not stand.
+    pub(crate) fn parent_of(&self, tag: usize) -> usize
+        requires { 1 ≤ tag }
+        ensures { result ≡ parent_of (drawn self.now.states tag) }
+    {
+        match self.states.get(tag - 1) {
+            State::Standing { parent, .. } => parent as usize,
+            State::Struck | State::Blank => 0,
+        }
+    }
+
+    /// The run of a tag; zero where it does not stand.
+    pub(crate) fn run_of(&self, tag: usize) -> K
+        requires { 1 ≤ tag }
+        ensures { result ≡ run_of K.figures (drawn self.now.states tag) }
+    {
+        match self.states.get(tag - 1) {
+            State::Standing { run, .. } => run,
+            State::Struck | State::Blank => K::zero(),
+        }
+    }
+
+    /// The drop of a tag; zero where it does not stand.
+    pub(crate) fn drop_of(&self, tag: usize) -> K
+        requires { 1 ≤ tag }
+        ensures { result ≡ drop_of K.figures (drawn self.now.states tag) }
+    {
+        match self.states.get(tag - 1) {
+            State::Standing { drop, .. } => drop,
+            State::Struck | State::Blank => K::zero(),
+        }
+    }
+
+    /// The tags that are met on going up from a tag: it, and all that it hangs from.
+    pub(crate) fn chain(&self, from: usize) -> [bool; 257]
+        requires { from ≤ 256 }
+        ensures { (t : ℕ) → 1 ≤ t → t ≤ 256 → slice_index_or result t false ≡ side_by (λ x. parent_of (drawn self.now.states x)) from t from }
+    {
+        let mut met = [false; 257];
+        let mut at = from;
+        while at > 0 {
+            met[at] = true;
+            at = self.parent_of(at);
+        }
+        met
     }
 }

@@ -2,6 +2,6 @@
 //! tag, and the passes that give the distance of every point to a path.
 #![tactic(auto)]
 
-mod climbing;
 mod drawing;
 mod passing;
+mod sides;

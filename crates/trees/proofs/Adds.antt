@@ -1,5 +1,6 @@
 -- The sum, over all points, of a figure of each point.
-use Rattle.std.proofs.Common.{◌≡◌, ℕ, zero, suc, ◌+◌, ◌*◌, ◌≤◌, Bool, true, false, cond, refl, ap₂, arith}
+use Rattle.std.proofs.Common.{◌≡◌, ℕ, zero, suc, ◌*◌, ◌≤◌, Bool, true, cond, refl, ap₂, arith}
+use Rattle.std.proofs.Math.Nat.{suc-mul}
 use Rattle.std.proofs.lemmas.Bool.{cond_both}
 use Rattle.lengths.specs.Figures.{Figures, Laws, Sum, none, both, AtMost, most_entries}
 use Rattle.lengths.specs.Order.{irrefl, sum_more}
@@ -18,18 +19,12 @@ module _ {F : Type 0} {k : Figures F} where
 
 -- two figures that are the same where b holds and where it does not
 cond_same : {A : Type 0} {x y z w : A} (b : Bool) → (b ≡ true → x ≡ z) → y ≡ w → cond b x y ≡ cond b z w
-cond_same true h g = h refl
-cond_same false h g = g
+cond_same b h g = grind arith
 
 -- a figure at most another where b holds and where it does not
 cond_le :
     {F : Type 0} (k : Figures F) (b : Bool) (x y z w : F) → (b ≡ true → AtMost k x z) → AtMost k y w → AtMost k (cond b x y) (cond b z w)
-cond_le k true x y z w h g = h refl
-cond_le k false x y z w h g = g
-
--- one factor more
-more : (n m : ℕ) → suc n * m ≡ n * m + m
-more n m = omega arith
+cond_le k b x y z w h g = grind arith
 
 module _ {F : Type 0} {k : Figures F} (T : Tree k) where
   -- where each figure is a sum of at most m entries, those of n tags come to at most n times m entries
@@ -39,7 +34,7 @@ module _ {F : Type 0} {k : Figures F} (T : Tree k) where
   sum_below_sum f m h (suc n) =
       let old = sum_below_sum f m h n in
       cond_both (T.stands n) (k.sum (sum_below T f n) (f n)) (sum_below T f n) (Sum k (suc n * m))
-      (λ s. both (omega (arith, more n m)) old (h n s)) (λ _. sum_more (omega (arith, more n m)) old)
+      (λ s. both (omega (arith, suc-mul n m)) old (h n s)) (λ _. sum_more (omega (arith, suc-mul n m)) old)
 
   -- where each figure is a sum of at most m entries, those of all points come to at most as many as the tags times m
   pub sum_over_sum : (f : ℕ → F) (m : ℕ) → ((y : ℕ) → Stands T y → Sum k m (f y)) → Sum k (T.high * m) (sum_over T f)
@@ -65,11 +60,11 @@ module _ {F : Type 0} {k : Figures F} (laws : Laws k) (T : Tree k) where
   unfolding sum_below
   sum_below_le f g m s t h zero room = irrefl laws k.zero
   sum_below_le f g m s t h (suc n) room =
-      let old = sum_below_le f g m s t h n (omega (arith, more n m)) in
+      let old = sum_below_le f g m s t h n (omega (arith, suc-mul n m)) in
       let of_f = sum_below T f n in
       let of_g = sum_below T g n in
       cond_le k (T.stands n) (k.sum of_f (f n)) of_f (k.sum of_g (g n)) of_g (λ u.
-      sum_le laws (n * m) m (omega (arith, more n m)) (sum_below_sum T f m s n) (s n u) (sum_below_sum T g m t n) (t n u) old (h n u)) old
+      sum_le laws (n * m) m (omega (arith, suc-mul n m)) (sum_below_sum T f m s n) (s n u) (sum_below_sum T g m t n) (t n u) old (h n u)) old
 
   -- where the figure f y is at most g y at every point, the sum of f over all points is at most that of g
   pub sum_over_le :

@@ -1,6 +1,6 @@
 -- The distance of two points is the sum of the runs that part them.
 use Rattle.std.proofs.Common.{◌≡◌, ℕ, zero, suc, ◌+◌, ◌<◌, ◌≤◌, min, max, cond, ◌||◌, eqb, ◌⊎◌, sym, refl, ◌∙◌, inl, inr, le_of_lt, arith}
-use native.Mathlib.Nat.{max-eq_right, max-eq_left, min-eq_left, min-eq_right}
+use Rattle.std.proofs.Math.Nat.{max-eq_right, max-eq_left, min-eq_left, min-eq_right}
 use Rattle.std.proofs.lemmas.Bool.{cases_order, cases_eq, eq-eqb, ne_eqb}
 use Rattle.lengths.specs.Figures.{Figures, Laws, Sum}
 use Rattle.trees.proofs.Trees.{Tree, Stands, Joined, side, parted, selected, climbed, distance, differ}

@@ -1,5 +1,5 @@
 -- Three points have a median.
-use Rattle.std.proofs.Common.{◌≡◌, ℕ, zero, suc, ◌+◌, ◌<◌, ◌≤◌, Bool, true, false, ◌⊎◌, sym, refl, ◌∙◌, subst, inl, inr, arith}
+use Rattle.std.proofs.Common.{◌≡◌, ℕ, zero, suc, ◌+◌, ◌<◌, ◌≤◌, Bool, false, ◌⊎◌, sym, ◌∙◌, subst, inl, inr, arith}
 use Rattle.std.proofs.lemmas.Bool.{cases_order, cases_eq}
 use Rattle.lengths.specs.Figures.{Figures}
 use Rattle.trees.proofs.Trees.{Tree, Stands, Joined, side, majority, Median}
@@ -8,24 +8,15 @@ use Rattle.trees.proofs.Sides.{side_above, side_past}
 
 -- the first two on one side
 twice : (s t : Bool) → s ≡ majority s s t
-twice true t = refl
-twice false t = refl
+twice s t = grind arith
 
 -- the last two on the inner side
 neither : (s : Bool) → majority s false false ≡ false
-neither true = refl
-neither false = refl
+neither s = grind arith
 
 -- the three in a ring
 turned : (s t u : Bool) → majority t u s ≡ majority s t u
-turned true true true = refl
-turned true true false = refl
-turned true false true = refl
-turned true false false = refl
-turned false true true = refl
-turned false true false = refl
-turned false false true = refl
-turned false false false = refl
+turned s t u = grind arith
 
 module _ {F : Type 0} {k : Figures F} (T : Tree k) where
   -- a point that is a median of a, b and x

@@ -1,9 +1,9 @@
 -- Two ways that no run has on different sides, and the distances to them.
 use Rattle.std.proofs.Common.{◌≡◌, ℕ, zero, suc, ◌<◌, Bool, true, false, not, ◌&&◌, ◌⊎◌, sym, ◌∙◌, inl, inr, ⊎_elim, arith}
-use Rattle.std.proofs.lemmas.Bool.{both_ways, cases_Bool, cases_eq, and_parts, not-true}
+use Rattle.std.proofs.lemmas.Bool.{both_ways, cases_Bool, cases_eq, and_parts, not-true, true_from_ne_false}
 use Rattle.lengths.specs.Figures.{Figures, Laws, Less}
 use Rattle.trees.proofs.Trees.{Tree, Stands, joined, Joined, side, off, selected}
-use Rattle.trees.proofs.TwoSides.{is_true, stable, both_apart, off_parts, off_from}
+use Rattle.trees.proofs.TwoSides.{stable, both_apart, off_parts, off_from}
 use Rattle.trees.proofs.Runs.{joined_above, joined_low, up_lower}
 use Rattle.trees.proofs.Selected.{one_more_selected}
 use Rattle.trees.proofs.Sides.{side_self, side_above, nested}
@@ -41,7 +41,7 @@ module _ {F : Type 0} {k : Figures F} (T : Tree k) where
           let p = and_parts (joined T e) (φ e && not (ψ e)) t in
           let q = and_parts (φ e) (not (ψ e)) p.1 in
           inl (e, p.0, q.0, not-true (ψ e) q.1)
-      go (inr h) = inr (λ e d t. is_true (ψ e) (λ f. both_ways (joined T e && (φ e && not (ψ e))) (h e (joined_low T d)) (rw (d, t, f))))
+      go (inr h) = inr (λ e d t. true_from_ne_false (ψ e) (λ f. both_ways (joined T e && (φ e && not (ψ e))) (h e (joined_low T d)) (rw (d, t, f))))
 
   -- no run has the way between a and b wholly on one side and the way between c and d wholly on the other
   abbrev pub Meet : ℕ → ℕ → ℕ → ℕ → Type 0
@@ -51,7 +51,7 @@ module _ {F : Type 0} {k : Figures F} (T : Tree k) where
   pub one_farther :
       (a b c d y : ℕ) → Stands T a → Stands T b → Stands T c → Stands T d → Stands T y → Meet a b c d →
       (e : ℕ) → Joined T e → off T y a b e ≡ true → off T y c d e ≡ false → Inside (off T y c d) (off T y a b)
-  one_farther a b c d y sa sb sc sd sy meet e h on miss f g on' = is_true (off T y a b f) never
+  one_farther a b c d y sa sb sc sd sy meet e h on miss f g on' = true_from_ne_false (off T y a b f) never
     where
       at_e : (side T e a ≡ side T e b) × (side T e y ≡ side T e a → ⊥)
       at_e = off_parts (side T e a) (side T e b) (side T e y) on

@@ -1,10 +1,10 @@
 -- The distance from a point to the nearest point of a way, from the sides that the ends of the way are on.
 use Rattle.std.proofs.Common.{◌≡◌, ℕ, suc, ◌<◌, ◌≤◌, Bool, true, false, ◌&&◌, ◌||◌, eqb, ltb, ◌⊎◌, sym, refl, ◌∙◌, inl, inr, arith}
 use mathlib.Core.Bool.{beq}
-use Rattle.std.proofs.lemmas.Bool.{both_ways, cases_Bool, cases_order, and_right, eq-eqb, ne_eqb, lt-ltb, le-ltb}
+use Rattle.std.proofs.lemmas.Bool.{both_ways, cases_Bool, cases_order, and_right, eq-eqb, ne_eqb, lt-ltb, le-ltb, false_from_ne_true}
 use Rattle.lengths.specs.Figures.{Figures, Laws}
 use Rattle.trees.proofs.Trees.{Tree, Stands, Joined, side, off, selected, nearest, differ}
-use Rattle.trees.proofs.TwoSides.{is_false, off_parts}
+use Rattle.trees.proofs.TwoSides.{off_parts}
 use Rattle.trees.proofs.Runs.{is_joined, joined_above, joined_low, up_stands, up_lower, run_one}
 use Rattle.trees.proofs.Sides.{side_self, side_above, side_up, side_past, side_trans, side_chain, by_parent, nested}
 use Rattle.trees.proofs.Selected.{selected_sum, none_selected, same_selected, one_besides}
@@ -51,7 +51,7 @@ module _ {F : Type 0} {k : Figures F} (T : Tree k) where
     where
       go : (side T e a ≡ true) ⊎ (side T e a ≡ false) → side T e t ≡ side T e a
       go (inl p) = side_chain T e t l low a s p h ∙ sym p
-      go (inr p) = is_false (side T e t) (λ r. both_ways (side T e a) p (side_trans T e t l r a s h)) ∙ sym p
+      go (inr p) = false_from_ne_true (side T e t) (λ r. both_ways (side T e a) p (side_trans T e t l r a s h)) ∙ sym p
 
 module _ {F : Type 0} {k : Figures F} (laws : Laws k) (T : Tree k) where
   -- a point that one end of a way hangs from and the other does not is on the way, so that nothing parts it from the way
@@ -61,7 +61,7 @@ module _ {F : Type 0} {k : Figures F} (laws : Laws k) (T : Tree k) where
     where
       none_off : (e : ℕ) → Joined T e → off T t a b e ≡ false
       none_off e d =
-          is_false (off T t a b e) (λ g.
+          false_from_ne_true (off T t a b e) (λ g.
           let p = off_parts (side T e a) (side T e b) (side T e t) g in
           let l = joined_above T d in
           differ_apart (side T t a) (side T t b) h (nested T t e (T.from_one t u) (omega arith) a b v w p.0 p.1))

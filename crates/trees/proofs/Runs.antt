@@ -59,8 +59,7 @@ module _ {F : Type 0} (k : Figures F) where
 
   -- what is never taken is zero
   pub pick_none : (b p : Bool) (x : F) → (b ≡ true → p ≡ false) → pick (b && p) x ≡ k.zero
-  pick_none true p x h = rw (h refl)
-  pick_none false p x h = refl
+  pick_none b p x h = grind arith
 
 module _ {F : Type 0} {k : Figures F} (laws : Laws k) where
   -- what is taken more often is at least as great

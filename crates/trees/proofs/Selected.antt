@@ -1,10 +1,9 @@
 -- Sums of selected runs.
 use Rattle.std.proofs.Common.{◌≡◌, ℕ, zero, suc, ◌<◌, ◌≤◌, Bool, true, false, ◌&&◌, ◌||◌, eqb, ltb, ◌⊎◌, sym, refl, ◌∙◌, ap₂, inl, inr, arith}
-use Rattle.std.proofs.lemmas.Bool.{both_ways, and_parts, eqb-true, eq-eqb, ne_eqb, lt-ltb, le-ltb, cases_order, and_right, or_cases}
+use Rattle.std.proofs.lemmas.Bool.{both_ways, and_parts, eqb-true, eq-eqb, ne_eqb, lt-ltb, le-ltb, cases_order, and_right, or_cases, false_from_ne_true}
 use Rattle.lengths.specs.Figures.{Figures, Laws, Sum, none, both, Less, AtMost}
 use Rattle.lengths.specs.Order.{irrefl, same, sum_more, lt_le_trans, neutral_left}
 use Rattle.trees.proofs.Trees.{Tree, joined, Joined, selected_below, selected}
-use Rattle.trees.proofs.TwoSides.{is_false}
 use Rattle.trees.proofs.Adding.{swap_four, sum_le, grows}
 use Rattle.trees.proofs.Runs.{joined_low, run_one, run_above_zero, pick, pick_sum, pick_none, pick_le, pick_or}
 
@@ -112,7 +111,7 @@ module _ {F : Type 0} {k : Figures F} (laws : Laws k) (T : Tree k) where
     where
       apart : (e : ℕ) → Joined T e → (eqb g e && φ e) ≡ false
       apart e d =
-          is_false (eqb g e && φ e) (λ t. let p = and_parts (eqb g e) (φ e) t in both_ways (φ e) (rw (eqb-true g e p.0) at out) p.1)
+          false_from_ne_true (eqb g e && φ e) (λ t. let p = and_parts (eqb g e) (φ e) t in both_ways (φ e) (rw (eqb-true g e p.0) at out) p.1)
 
   -- where ψ selects every run that φ selects and one run more, the runs of φ come to less than those of ψ
   pub one_more_selected :

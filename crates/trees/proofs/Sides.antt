@@ -1,29 +1,37 @@
 -- Which side of a run a point is on.
 use Rattle.std.proofs.Common.{◌≡◌, ℕ, zero, suc, ◌<◌, ◌≤◌, Bool, true, false, ◌&&◌, ◌||◌, eqb, ltb, ◌⊎◌, sym, refl, ap, ◌∙◌, inl, inr, arith}
-use Rattle.std.proofs.lemmas.Bool.{both_ways, cases_Bool, ltb-true, eq-eqb, ne_eqb, lt-ltb, le-ltb, cases_order, or_left}
+use Rattle.std.proofs.lemmas.Bool.{both_ways, cases_Bool, ltb-true, eq-eqb, ne_eqb, lt-ltb, le-ltb, cases_order, or_left, false_from_ne_true}
 use Rattle.lengths.specs.Figures.{Figures}
 use Rattle.trees.proofs.Trees.{Tree, Stands, Joined, side_by, side}
-use Rattle.trees.proofs.TwoSides.{is_false}
 use Rattle.trees.proofs.Runs.{joined_stands, up_lower, later_joined}
 
 -- what follows a test counts only where the test is passed
 and_same : (b : Bool) {c d : Bool} → (b ≡ true → c ≡ d) → (b && c) ≡ (b && d)
-and_same true h = h refl
-and_same false h = refl
+and_same b h = grind arith
 
-module _ {F : Type 0} {k : Figures F} (T : Tree k) where
-  -- to look further up than the tag itself makes no difference
-  enough : (l m e x : ℕ) → 1 ≤ e → Stands T x → x ≤ l → x ≤ m → side_by T.parent l e x ≡ side_by T.parent m e x
+-- going up by P from the numbers of which S holds: from each above 1 to a smaller one of them
+module _ (P : ℕ → ℕ) (S : ℕ → Type 0) (falls : (x : ℕ) → S x → 1 < x → S (P x) × (P x < x)) (e : ℕ) (low : 1 ≤ e) where
+  -- 0 hangs from nothing
+  pub side_none : (f : ℕ) → side_by P f e 0 ≡ false
   unfolding side_by
-  enough zero m e x i s h g = absurd (omega (arith, T.from_one x s))
-  enough (suc l) zero e x i s h g = absurd (omega (arith, T.from_one x s))
-  enough (suc l) (suc m) e x i s h g =
+  side_none zero = refl
+  side_none (suc f) = rw (ne_eqb e 0 (omega arith), le-ltb e 0 (omega arith))
+
+  -- to look further up than the number itself makes no difference
+  pub enough : (l m x : ℕ) → S x → x ≤ l → x ≤ m → side_by P l e x ≡ side_by P m e x
+  unfolding side_by
+  enough zero m zero s h g = sym (side_none m)
+  enough zero m (suc x) s h g = absurd (omega arith)
+  enough (suc l) zero zero s h g = side_none (suc l)
+  enough (suc l) zero (suc x) s h g = absurd (omega arith)
+  enough (suc l) (suc m) x s h g =
       ap (◌||◌ (eqb e x))
       (and_same (ltb e x) (λ t.
       let a : e < x = ltb-true e x t in
-      let b : T.parent x < x = T.up_lower x s (omega arith) in
-      enough l m e (T.parent x) i (T.up_stands x s (omega arith)) (omega arith) (omega arith)))
+      let up = falls x s (omega arith) in
+      enough l m (P x) up.0 (omega (arith, up.1)) (omega (arith, up.1))))
 
+module _ {F : Type 0} {k : Figures F} (T : Tree k) where
   -- a point is on the outer side of its own run
   pub side_self : (e : ℕ) → 1 ≤ e → side T e e ≡ true
   unfolding side side_by
@@ -43,7 +51,8 @@ module _ {F : Type 0} {k : Figures F} (T : Tree k) where
   side_up e (suc n) l s h =
       let b : T.parent (suc n) < suc n = T.up_lower (suc n) s (omega arith) in
       rw (ne_eqb e (suc n) (omega arith), lt-ltb e (suc n) h)
-      (enough n (T.parent (suc n)) e (T.parent (suc n)) l (T.up_stands (suc n) s (omega arith)) (omega arith) (omega arith))
+      (enough T.parent (Stands T) (λ x s l. (T.up_stands x s l, T.up_lower x s l)) e l n (T.parent (suc n)) (T.parent (suc n))
+      (T.up_stands (suc n) s (omega arith)) (omega arith) (omega arith))
 
   -- a point on the outer side of the run e is not smaller than e
   pub side_low : (e x : ℕ) → side T e x ≡ true → e ≤ x
@@ -113,7 +122,7 @@ module _ {F : Type 0} {k : Figures F} (T : Tree k) where
 
       go : (side T e f ≡ true) ⊎ (side T e f ≡ false) → side T e z ≡ side T e f
       go (inl t) = side_trans e f l t z s g ∙ sym t
-      go (inr n) = is_false (side T e z) (λ t. no_e n t (cases_order e f)) ∙ sym n
+      go (inr n) = false_from_ne_true (side T e z) (λ t. no_e n t (cases_order e f)) ∙ sym n
 
   -- runs do not cross: two points that the run f parts from e are on one side of the run e
   pub nested :
@@ -122,7 +131,7 @@ module _ {F : Type 0} {k : Figures F} (T : Tree k) where
   nested e f l m y z s t same apart = go (cases_Bool (side T f e)) (cases_Bool (side T f y))
     where
       over : side T f e ≡ true → (x : ℕ) → Stands T x → side T f x ≡ false → side T e x ≡ false
-      over p x u q = is_false (side T e x) (λ r. both_ways (side T f x) q (side_trans f e m p x u r))
+      over p x u q = false_from_ne_true (side T e x) (λ r. both_ways (side T f x) q (side_trans f e m p x u r))
 
       go : (side T f e ≡ true) ⊎ (side T f e ≡ false) → (side T f y ≡ true) ⊎ (side T f y ≡ false) → side T e y ≡ side T e z
       go (inl p) (inl q) = absurd (apart (p ∙ sym q))

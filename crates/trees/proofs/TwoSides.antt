@@ -1,22 +1,11 @@
 -- What holds of the sides that two, three or more points are on, at one run.
-use Rattle.std.proofs.Common.{◌≡◌, Bool, true, false, ◌&&◌, ◌⊎◌, refl, inl, inr, arith}
+use Rattle.std.proofs.Common.{◌≡◌, Bool, true, false, ◌&&◌, ◌⊎◌, inl, inr, arith}
 use mathlib.Core.Bool.{beq}
 use Rattle.trees.proofs.Trees.{differ, majority}
 
--- what cannot be true is false
-pub is_false : (b : Bool) → (b ≡ true → ⊥) → b ≡ false
-is_false true h = absurd (h refl)
-is_false false h = refl
-
--- what cannot be false is true
-pub is_true : (b : Bool) → (b ≡ false → ⊥) → b ≡ true
-is_true true h = refl
-is_true false h = absurd (h refl)
-
 -- a point is on its own side
 pub differ_none : (s : Bool) → differ s s ≡ false
-differ_none true = refl
-differ_none false = refl
+differ_none s = grind arith
 
 -- two sides differ in either order
 pub differ_turn : (s t : Bool) → differ s t ≡ differ t s

@@ -1,10 +1,9 @@
 -- A point is on the way between two others where no run parts it from both.
 use Rattle.std.proofs.Common.{◌≡◌, ℕ, zero, suc, ◌+◌, ◌<◌, ◌≤◌, max, Bool, true, false, ◌||◌, eqb, ◌⊎◌, ◌↔◌, List, [], ◌∷◌, sym, refl, ap, ◌∙◌, inl, inr, ⊎_elim, le_of_lt, arith}
-use native.Mathlib.Nat.{max-eq_right, max-eq_left, min-eq_left, min-eq_right}
-use Rattle.std.proofs.lemmas.Bool.{both_ways, cases_order, cases_eq, eqb-true, eq-eqb, ne_eqb, or_cases, or_left, or_right}
+use Rattle.std.proofs.Math.Nat.{max-eq_right, max-eq_left, min-eq_left, min-eq_right}
+use Rattle.std.proofs.lemmas.Bool.{both_ways, cases_order, cases_eq, eqb-true, eq-eqb, ne_eqb, or_cases, or_left, or_right, false_from_ne_true}
 use Rattle.lengths.specs.Figures.{Figures}
 use Rattle.trees.proofs.Trees.{Tree, Stands, Joined, side, passed, way, member, On, Between}
-use Rattle.trees.proofs.TwoSides.{is_false}
 use Rattle.trees.proofs.Runs.{joined_above, is_joined, up_stands, up_lower, later_joined}
 use Rattle.trees.proofs.Sides.{side_self, side_above, side_low, side_past, known_by_sides}
 
@@ -29,7 +28,7 @@ module _ {F : Type 0} {k : Figures F} (T : Tree k) where
 
       -- a point that hangs from g is parted from both ends by its own run
       out : (w ≡ g → ⊥) → Between T w l g → side T g w ≡ false
-      out n B = is_false (side T g w) (λ t.
+      out n B = false_from_ne_true (side T g w) (λ t.
           let a : g ≤ w = side_low T g w t in
           let b = joined_above T h in
           let c = B w (is_joined T s (omega (arith, n))) (side_above T w l (omega (arith, n)) ∙ sym (side_above T w g (omega (arith, n)))) in
