@@ -5,13 +5,26 @@ ghost use Rattle.books.specs.declared.states.State.TheVariants.{Struck, Standing
 ghost use Rattle.books.specs.Causes.{answered, first_cause, growth_causes, strike_causes};
 ghost use Rattle.books.specs.Edits.{tag_of, written};
 ghost use Rattle.books.specs.States.{Grown, StruckOut, Same};
-ghost use Rattle.tables.specs.Rows.{row_of, extent_of, state_of};
+ghost use Rattle.rows.specs.Rows.{row_of, extent_of, state_of};
 
 use crate::lent::TableBook;
-use crate::reading::{size_of, state_at};
-use crate::rows::Row;
 use books::{Book, Refusal, Refused, State, answer_with, growth_cause, look_cause, strike_cause};
 use lengths::Length;
+use rows::{Row, Rows, row_at, size_for, state_at};
+
+impl<'a, K: Length> Rows for TableBook<'a, K> {
+    type Kind = K;
+
+    ghost rows = { λ b. b.rows.now };
+
+    fn extent(&self) -> u32 {
+        size_for(self.rows.len())
+    }
+
+    fn row(&self, index: usize) -> State<K> {
+        row_at(self.rows, index)
+    }
+}
 
 /// The first cause against a growth.
 fn against_growth<K: Length>(
@@ -23,16 +36,16 @@ fn against_growth<K: Length>(
 ) -> Option<Refusal>
     ensures { result ≡ first_cause (growth_causes K.figures (extent_of book.now.rows.now) (state_of K.figures book.now.rows.now tag) (state_of K.figures book.now.rows.now parent) tag parent run drop) }
 {
-    let at = state_at(book.rows, tag);
-    let up = state_at(book.rows, parent);
-    growth_cause(size_of(book.rows), tag, parent, run, drop, at, up)
+    let at = state_at(book, tag);
+    let up = state_at(book, parent);
+    growth_cause(book.extent(), tag, parent, run, drop, at, up)
 }
 
 /// The first cause against a strike.
 fn against_strike<K: Length>(book: &TableBook<'_, K>, tag: u32) -> Option<Refusal>
     ensures { result ≡ first_cause (strike_causes (extent_of book.now.rows.now) (state_of K.figures book.now.rows.now tag) tag) }
 {
-    strike_cause(size_of(book.rows), tag, state_at(book.rows, tag))
+    strike_cause(book.extent(), tag, state_at(book, tag))
 }
 
 impl<'a, K: Length> Book for TableBook<'a, K> {
@@ -49,15 +62,11 @@ impl<'a, K: Length> Book for TableBook<'a, K> {
     ghost writes = { λ a e b. (b.rows.ghost_name ≡ a.rows.ghost_name) × (b.rows.now ≡ slice_set a.rows.now (tag_of e - 2) (row_of (written e))) };
 
     fn size(&self) -> u32 {
-        size_of(self.rows)
+        self.extent()
     }
 
     fn look(&self, tag: u32) -> Result<State<K>, Refused> {
-        answer_with(
-            tag,
-            state_at(self.rows, tag),
-            look_cause(size_of(self.rows), tag),
-        )
+        answer_with(tag, state_at(self, tag), look_cause(self.extent(), tag))
     }
 
     fn grow(&mut self, tag: u32, parent: u32, run: K, drop: K) -> Result<(), Refused>

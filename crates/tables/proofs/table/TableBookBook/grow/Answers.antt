@@ -3,8 +3,8 @@ use Rattle.std.proofs.lemmas.List.{drop-set-lt}
 use Rattle.books.specs.declared.states.State.TheVariants.{Standing}
 use Rattle.books.specs.Causes.{answered}
 use Rattle.books.proofs.Tables.{may_grow}
-use Rattle.tables.specs.Rows.{row_of, extent_of, state_of}
-use Rattle.tables.proofs.Changes.{grown_rows, grown_sound, extent_same}
+use Rattle.rows.specs.Rows.{row_of, extent_of, state_of}
+use Rattle.rows.proofs.Changes.{grown_rows, grown_sound, extent_same}
 use Rattle.tables.proofs.table.TableBookBook.grow.Goals as goal
 
 pub offset_bounds-self-tag : goal.offset_bounds-self-tag

@@ -1,5 +1,5 @@
 use Rattle.std.proofs.Common.{refl, rules}
-use Rattle.tables.proofs.Changes.{lawful_rows}
+use Rattle.rows.proofs.Changes.{lawful_rows}
 use Rattle.tables.proofs.table.TableBookBook.size.Goals as goal
 
 pub returns : goal.returns
