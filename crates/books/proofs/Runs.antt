@@ -17,11 +17,7 @@ use Rattle.books.specs.Edits.{Among, Explains, Led, Answered, told, verdict}
 use Rattle.books.specs.States.{New, Grown, StruckOut, Same}
 use Rattle.books.proofs.Members.{among_some}
 use Rattle.books.proofs.Steps.{not_blank, refused_step, growth_step, strike_step}
-use Rattle.books.proofs.Tables.{may_grow, may_strike}
-
-no_cause : (tag : ℕ) (u : Unit {0}) (o : Option Refusal) → Ok u ≡ answered tag tt o → o ≡ None
-no_cause tag u None e = refl
-no_cause tag u (Some r) e = let z : ◌≡◌ {A = ℕ} 0 1 = cc in absurd (omega arith)
+use Rattle.books.proofs.Tables.{no_cause, may_grow, may_strike}
 
 -- a growth, accepted or refused
 pub growth_done : {K : Type 0} (k : Figures K) (size : ℕ) (h : List (Entry K)) (s t : ℕ → State K) (tag parent : ℕ) (run drop : K) (res : Result (Unit {0}) Refused)

@@ -1,17 +1,22 @@
 -- What the tables of causes say where no cause holds.
-use Rattle.std.proofs.Common.{◌≡◌, ℕ, ◌<◌, ◌≤◌, Bool, true, false, not, eqb, ltb, leb, None, Option, refl, arith}
+use Rattle.std.proofs.Common.{◌≡◌, ℕ, ◌<◌, ◌≤◌, Bool, true, false, not, eqb, ltb, leb, Some, None, Ok, Option, refl, arith}
 use Rattle.std.proofs.lemmas.Bool.{ltb-false, leb-false, eqb-false, not-false, or_parts}
 use Rattle.lengths.specs.Figures.{Figures, Less}
 use Rattle.books.specs.declared.causes.Refusal.{Refusal}
 use Rattle.books.specs.declared.states.State.{State}
 use Rattle.books.specs.declared.states.State.TheVariants.{Blank, Struck, Standing}
-use Rattle.books.specs.Causes.{pick, first_cause, growth_causes, strike_causes}
+use Rattle.books.specs.Causes.{answered, pick, first_cause, growth_causes, strike_causes}
 use Rattle.books.specs.States.{is_blank, is_struck, stands}
 
 -- no cause holds: not the first, and none after it
 none_first : (b : Bool) (r : Refusal) (o : Option Refusal) → pick b r o ≡ None → (b ≡ false) × (o ≡ None)
 none_first true r o e = let z : ◌≡◌ {A = ℕ} 0 1 = cc in absurd (omega arith)
 none_first false r o e = (refl, e)
+
+-- what was accepted had no cause against it
+pub no_cause : (tag : ℕ) (u : Unit {0}) (o : Option Refusal) → Ok u ≡ answered tag tt o → o ≡ None
+no_cause tag u None e = refl
+no_cause tag u (Some r) e = let z : ◌≡◌ {A = ℕ} 0 1 = cc in absurd (omega arith)
 
 -- what an accepted growth had
 pub record MayGrow {K : Type 0} (k : Figures K) (size : ℕ) (state : ℕ → State K) (tag parent : ℕ) (run drop : K) : Type 0 where
