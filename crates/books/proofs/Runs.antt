@@ -1,10 +1,9 @@
 -- Lists of edits that are done one after another.
-use Rattle.std.proofs.Common.{◌≡◌, ℕ, ◌<◌, ◌⊎◌, List, [], ◌∷◌, ◌++◌, map, length, get_or, set, Some, None, Ok, Err, Option, Result, sym, refl, ap, ◌∙◌, subst, inl, inr, arith, MatchResult}
+use Rattle.std.proofs.Common.{◌≡◌, ℕ, ◌<◌, ◌⊎◌, List, [], ◌∷◌, ◌++◌, map, length, get_or, set, Ok, Err, Result, sym, refl, ap, ◌∙◌, subst, inl, inr, arith, MatchResult}
 use mathlib.Core.Path.{fun_ext}
 use Rattle.std.proofs.lemmas.List.{map-set, get_or-map, set-get_or}
 use Rattle.std.proofs.lemmas.Bool.{cases_eq}
 use Rattle.lengths.specs.Figures.{Figures}
-use Rattle.books.specs.declared.causes.Refusal.{Refusal}
 use Rattle.books.specs.declared.causes.Refused.{Refused}
 use Rattle.books.specs.declared.edits.Answer.{Answer}
 use Rattle.books.specs.declared.edits.Edit.{Edit}

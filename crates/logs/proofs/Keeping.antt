@@ -1,18 +1,19 @@
 -- What a log keeps after an accepted edit.
-use Rattle.std.proofs.Common.{◌≡◌, ℕ, zero, suc, ◌+◌, ◌-◌, ◌/◌, ◌<◌, min, List, [], ◌∷◌, ◌++◌, map, length, take, drop, set, None, sym, refl, ap, ◌∙◌, subst, arith}
+use Rattle.std.proofs.Common.{◌≡◌, ℕ, zero, suc, ◌+◌, ◌-◌, ◌/◌, ◌<◌, min, List, [], ◌∷◌, ◌++◌, map, length, take, drop, set, Ok, sym, refl, ap, ◌∙◌, subst, arith}
 use Rattle.std.proofs.lemmas.List.{length-set, map_push, take_more_set, take-set-le, drop-set-lt}
 use Rattle.lengths.specs.Figures.{Figures}
 use Rattle.books.specs.declared.edits.Answer.TheVariants as answers
 use Rattle.books.specs.declared.edits.Edit.{Edit}
 use Rattle.books.specs.declared.edits.Edit.TheVariants.{Growth, Strike}
 use Rattle.books.specs.declared.edits.Entry.{Entry}
+use Rattle.books.specs.declared.states.State.{State}
 use Rattle.books.specs.declared.states.State.TheVariants.{Blank, Struck, Standing}
 use Rattle.books.specs.Causes.{answered, first_cause, growth_causes, strike_causes}
 use Rattle.books.specs.Edits.{accepted, told, verdict, Done, Course}
 use Rattle.books.specs.States.{left, Grown, StruckOut}
 use Rattle.books.proofs.Courses.{course_more}
 use Rattle.books.proofs.Steps.{standing_as}
-use Rattle.books.proofs.Tables.{MayGrow, MayStrike, may_grow, may_strike}
+use Rattle.books.proofs.Tables.{no_cause, MayGrow, MayStrike, may_grow, may_strike}
 use Rattle.rows.specs.declared.row.Row.{Row}
 use Rattle.rows.specs.Rows as rows
 use Rattle.rows.specs.Rows.{row_of, row_at, state_of, Kept}
@@ -54,11 +55,17 @@ replays_more {K} {k} entries used e h v d r =
           (subst (λ (ns : List (Entry K)). Course k (extent_of entries) ns r.fresh next) (sym more) (course_more (accepted e) r.course v d));
     }
 
+-- what is answered by rows that the edits come to is answered by the log
+pub log_as : {K X : Type 0} (k : Figures K) (entries : List (Edit K)) (used : ℕ) {rs : List (Row K)} (answer : ℕ → (ℕ → State K) → X) → rs ≡ rows_of entries used
+    → answer (rows.extent_of rs) (state_of k rs) ≡ answer (extent_of entries) (log_state k entries used)
+log_as k entries used answer e =
+    ap (λ rs. answer (rows.extent_of rs) (state_of k rs)) e ∙ ap (λ (n : ℕ). answer n (log_state k entries used)) (rows_extent entries used)
+
 -- an accepted growth
 module _ {K : Type 0} (k : Figures K) (entries : List (Edit K)) (used tag parent : ℕ) (run drop' : K) (kept : Kept (rows_of entries used)) (room : Roomy entries used)
-    (free : first_cause (growth_causes k (extent_of entries) (log_state k entries used tag) (log_state k entries used parent) tag parent run drop') ≡ None) where
+    (u : Unit {0}) (ok : Ok u ≡ answered tag tt (first_cause (growth_causes k (extent_of entries) (log_state k entries used tag) (log_state k entries used parent) tag parent run drop'))) where
   grows : MayGrow k (extent_of entries) (log_state k entries used) tag parent run drop'
-  grows = may_grow k (extent_of entries) (log_state k entries used) tag parent run drop' free
+  grows = may_grow k (extent_of entries) (log_state k entries used) tag parent run drop' (no_cause tag u _ ok)
 
   row_grows : MayGrow k (rows.extent_of (rows_of entries used)) (log_state k entries used) tag parent run drop'
   row_grows = subst (λ (n : ℕ). MayGrow k n (log_state k entries used) tag parent run drop') (sym (rows_extent entries used)) grows
@@ -82,13 +89,13 @@ module _ {K : Type 0} (k : Figures K) (entries : List (Edit K)) (used tag parent
   growth_states = subst (λ (rs : List (Row K)). Grown (log_state k entries used) (state_of k rs) tag (Standing parent run drop')) (sym growth_rows) (grown_rows k (rows_of entries used) tag parent run drop' kept row_grows)
 
   pub growth_replays : Replays k entries used → Replays k (set entries used (Growth tag parent run drop')) (used + 1)
-  growth_replays = replays_more entries used (Growth tag parent run drop') growth_fits (sym (ap (λ o. told (answered tag tt o)) free)) growth_states
+  growth_replays = replays_more entries used (Growth tag parent run drop') growth_fits (ap told ok) growth_states
 
 -- an accepted strike
 module _ {K : Type 0} (k : Figures K) (entries : List (Edit K)) (used tag : ℕ) (kept : Kept (rows_of entries used)) (room : Roomy entries used)
-    (free : first_cause (strike_causes (extent_of entries) (log_state k entries used tag) tag) ≡ None) where
+    (u : Unit {0}) (ok : Ok u ≡ answered tag tt (first_cause (strike_causes (extent_of entries) (log_state k entries used tag) tag))) where
   strikes : MayStrike (extent_of entries) (log_state k entries used) tag
-  strikes = may_strike (extent_of entries) (log_state k entries used) tag free
+  strikes = may_strike (extent_of entries) (log_state k entries used) tag (no_cause tag u _ ok)
 
   row_strikes : MayStrike (rows.extent_of (rows_of entries used)) (log_state k entries used) tag
   row_strikes = subst (λ (n : ℕ). MayStrike n (log_state k entries used) tag) (sym (rows_extent entries used)) strikes
@@ -114,4 +121,4 @@ module _ {K : Type 0} (k : Figures K) (entries : List (Edit K)) (used tag : ℕ)
   strike_states = subst (λ (rs : List (Row K)). StruckOut (log_state k entries used) (state_of k rs) tag) (sym strike_rows) (struck_rows k (rows_of entries used) tag kept row_strikes)
 
   pub strike_replays : Replays k entries used → Replays k (set entries used (Strike tag)) (used + 1)
-  strike_replays = replays_more entries used (Strike tag) strike_fits (sym (ap (λ o. told (answered tag tt o)) free)) strike_states
+  strike_replays = replays_more entries used (Strike tag) strike_fits (ap told ok) strike_states
