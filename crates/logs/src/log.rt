@@ -5,7 +5,7 @@ ghost use Rattle.logs.specs.Marks.{rows_by};
 
 use crate::lent::LogBook;
 use crate::replaying::Replayed;
-use books::{Book, Edit, Refused, State};
+use books::{Book, Edit, Refused, Spur, State};
 use lengths::Length;
 use rows::{judge_growth, judge_look, judge_strike, size_for};
 
@@ -47,14 +47,9 @@ impl<'a, K: Length> Book for LogBook<'a, K> {
         judge_look(&self.replayed(), tag)
     }
 
-    fn grow(&mut self, tag: u32, parent: u32, run: K, drop: K) -> Result<(), Refused> {
-        judge_growth(&self.replayed(), tag, parent, run, drop)?;
-        self.entries[self.used] = Edit::Growth {
-            tag,
-            parent,
-            run,
-            drop,
-        };
+    fn grow(&mut self, tag: u32, spur: &Spur<K>) -> Result<(), Refused> {
+        judge_growth(&self.replayed(), tag, spur)?;
+        self.entries[self.used] = Edit::Growth { tag, spur: *spur };
         self.used += 1;
         Ok(())
     }

@@ -1,7 +1,6 @@
 // Replaying edits: the rows that they come to.
 ghost use Rattle.std.specs.Prelude.{◌≡◌, ◌≤◌, replicate, take};
 ghost use Rattle.books.specs.declared.states.State.TheVariants.{Blank};
-ghost use Rattle.books.specs.Edits.{tag_of, written};
 ghost use Rattle.logs.specs.Logs.{replay};
 ghost use Rattle.logs.specs.Marks.{mark_one, rows_by};
 ghost use Rattle.rows.specs.Rows.{row_of};
@@ -21,36 +20,11 @@ pub(crate) struct Replayed<'e, K> {
     ghost within: { count ≤ 255 },
 }
 
-/// The tag that an edit names.
-fn tag_of<K: Copy>(edit: Edit<K>) -> u32
-    ensures { result ≡ tag_of edit }
-{
-    match edit {
-        Edit::Growth { tag, .. } => tag,
-        Edit::Strike { tag } => tag,
-    }
-}
-
-/// What an edit writes of its tag.
-fn written<K: Copy>(edit: Edit<K>) -> State<K>
-    ensures { result ≡ written edit }
-{
-    match edit {
-        Edit::Growth {
-            parent,
-            run,
-            drop,
-            ..
-        } => State::Standing { parent, run, drop },
-        Edit::Strike { .. } => State::Struck,
-    }
-}
-
 /// Marks the row of an edit's tag, if there is one.
 fn mark_one<K: Copy>(marks: &mut [Option<usize>], edit: Edit<K>, index: usize)
     ensures { marks.new ≡ mark_one marks.old edit index }
 {
-    let tag = tag_of(edit) as usize;
+    let tag = edit.tag() as usize;
     if tag >= 2 && tag - 2 < marks.len() {
         marks[tag - 2] = Some(index);
     }
@@ -97,6 +71,6 @@ impl<'e, K: Length> Rows for Replayed<'e, K> {
         let Some(edit) = self.edits.get(*last) else {
             return State::Blank;
         };
-        written(*edit)
+        edit.written()
     }
 }

@@ -4,7 +4,7 @@ ghost use Rattle.books.specs.Edits.{tag_of, written};
 ghost use Rattle.rows.specs.Rows.{row_of, extent_of, state_of};
 
 use crate::lent::TableBook;
-use books::{Book, Refused, State};
+use books::{Book, Refused, Spur, State};
 use lengths::Length;
 use rows::{Row, Rows, judge_growth, judge_look, judge_strike, row_at, size_for};
 
@@ -43,10 +43,10 @@ impl<'a, K: Length> Book for TableBook<'a, K> {
         judge_look(self, tag)
     }
 
-    fn grow(&mut self, tag: u32, parent: u32, run: K, drop: K) -> Result<(), Refused> {
-        judge_growth(self, tag, parent, run, drop)?;
+    fn grow(&mut self, tag: u32, spur: &Spur<K>) -> Result<(), Refused> {
+        judge_growth(self, tag, spur)?;
         self.rows[tag as usize - 2] = Row {
-            state: State::Standing { parent, run, drop },
+            state: State::Standing(*spur),
         };
         Ok(())
     }
