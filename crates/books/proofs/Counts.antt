@@ -1,24 +1,24 @@
 -- How many edits a book accepts: each takes one from what is left of the tags.
-use Rattle.std.proofs.Common.{◌≡◌, ℕ, zero, suc, ◌+◌, ◌-◌, ◌*◌, ◌<◌, ◌≤◌, List, ap, ◌∙◌, inl, inr, arith}
+use Rattle.std.proofs.Common.{◌≡◌, ℕ, zero, suc, ◌+◌, ◌-◌, ◌*◌, ◌<◌, ◌≤◌, List, Some, Ok, Err, Result, refl, ap, ◌∙◌, inl, inr, arith}
 use Rattle.std.proofs.lemmas.Bool.{cases_Bool, cases_eq}
 use Rattle.lengths.specs.Figures.{Figures}
-use Rattle.books.specs.declared.edits.Answer.{Answer}
-use Rattle.books.specs.declared.edits.Answer.TheVariants as answers
+use Rattle.books.specs.declared.causes.Refused.{Refused}
 use Rattle.books.specs.declared.edits.Edit.{Edit}
 use Rattle.books.specs.declared.edits.Edit.TheVariants.{Growth, Strike}
 use Rattle.books.specs.declared.edits.Entry.{Entry}
+use Rattle.books.specs.declared.states.Spur.{Spur}
 use Rattle.books.specs.declared.states.State.{State}
 use Rattle.books.specs.declared.states.State.TheVariants.{Blank, Struck, Standing}
 use Rattle.books.specs.Edits.{Done, Course, nothing, then, verdict, taken, accepted_in}
 use Rattle.books.specs.States.{is_struck, left, lefts, Grown, StruckOut, Same}
-use Rattle.books.proofs.Courses.{no_cause, struck_as, out_apart}
+use Rattle.books.proofs.Courses.{struck_as, out_apart}
 use Rattle.books.proofs.Steps.{standing_as}
 use Rattle.books.proofs.Tables.{may_grow, may_strike}
 
 left_most : {K : Type 0} (s : State K) → left s ≤ 2
 left_most Blank = omega arith
 left_most Struck = omega arith
-left_most (Standing p r d) = omega arith
+left_most (Standing s) = omega arith
 
 lefts_most : {K : Type 0} (f : ℕ → State K) (n : ℕ) → lefts f n ≤ 2 * n
 unfolding lefts
@@ -43,7 +43,7 @@ module _ {K : Type 0} (f g : ℕ → State K) (less : (t : ℕ) → left (g t) �
     | inr e ↦ omega (arith, less (n + 2), lefts_lt tag n a (omega arith) h)
   ]
 
-grown_less : {K : Type 0} {s t : ℕ → State K} {tag p : ℕ} {r d : K} → s tag ≡ Blank → Grown s t tag (Standing p r d) → (x : ℕ) → left (t x) ≤ left (s x)
+grown_less : {K : Type 0} {s t : ℕ → State K} {tag : ℕ} {v : Spur K} → s tag ≡ Blank → Grown s t tag (Standing v) → (x : ℕ) → left (t x) ≤ left (s x)
 grown_less {K} {s} {t} {tag} e grown x = elim (cases_eq x tag) [
   | inl q ↦
       let a : left (s x) ≡ 2 = ap left (ap s q ∙ e) in
@@ -61,26 +61,24 @@ same_less : {K : Type 0} {s t : ℕ → State K} (n : ℕ) → Same s t → left
 same_less {K} {s} {t} n same = lefts_le s t (λ x. let a : left (t x) ≡ left (s x) = ap left (same x) in omega arith) n
 
 -- an edit takes one from what is left, if it was accepted
-done_less : {K : Type 0} (k : Figures K) (size : ℕ) (s t : ℕ → State K) (e : Edit K) (a : Answer) → a ≡ verdict k size s e → Done e a s t → taken a + lefts t (size - 1) ≤ lefts s (size - 1)
-done_less k size s t (Growth tag parent run drop) answers.Accepted v d =
-    let may = may_grow k size s tag parent run drop (no_cause tag _ v) in
+done_less : {K : Type 0} (k : Figures K) (size : ℕ) (s t : ℕ → State K) (e : Edit K) (r : Result (Unit {0}) Refused) → r ≡ verdict k size s e → Done e r s t → taken (Some r) + lefts t (size - 1) ≤ lefts s (size - 1)
+done_less k size s t (Growth tag x) (Ok u) v d =
+    let may = may_grow k size s tag x v in
     let was : left (s tag) ≡ 2 = ap left may.empty in
     let is : left (t tag) ≡ 1 = ap left d.stood in
     omega (arith, lefts_lt s t (grown_less may.empty d) tag (size - 1) may.low (omega (arith, may.high, may.low)) (omega arith))
-done_less k size s t (Strike tag) answers.Accepted v d =
-    let may = may_strike size s tag (no_cause tag _ v) in
+done_less k size s t (Strike tag) (Ok u) v d =
+    let may = may_strike k size s tag v in
     let up = standing_as (s tag) may.up in
-    let was : left (s tag) ≡ 1 = ap left up.1.1.1 in
+    let was : left (s tag) ≡ 1 = ap left up.1 in
     let is : left (t tag) ≡ 0 = ap left d.named in
     omega (arith, lefts_lt s t (out_less d) tag (size - 1) may.low (omega (arith, may.high, may.low)) (omega arith))
-done_less k size s t (Growth tag parent run drop) answers.Waiting v d = omega (arith, same_less {s = s} {t = t} (size - 1) d)
-done_less k size s t (Strike tag) answers.Waiting v d = omega (arith, same_less {s = s} {t = t} (size - 1) d)
-done_less k size s t (Growth tag parent run drop) (answers.Refused f) v d = omega (arith, same_less {s = s} {t = t} (size - 1) d)
-done_less k size s t (Strike tag) (answers.Refused f) v d = omega (arith, same_less {s = s} {t = t} (size - 1) d)
+done_less k size s t (Growth tag x) (Err f) v d = omega (arith, same_less {s = s} {t = t} (size - 1) d)
+done_less k size s t (Strike tag) (Err f) v d = omega (arith, same_less {s = s} {t = t} (size - 1) d)
 
 pub course_less : {K : Type 0} {k : Figures K} {size : ℕ} {ns : List (Entry K)} {s t : ℕ → State K} → Course k size ns s t → accepted_in ns + lefts t (size - 1) ≤ lefts s (size - 1)
 course_less {K} {k} {size} {ns} {s} {t} (nothing same) = omega (arith, same_less {s = s} {t = t} (size - 1) same)
-course_less {K} {k} {size} {ns} {s} {t} (then {n = n} {t = u} v d c) = omega (arith, done_less k size s u n.edit n.answer v d, course_less c)
+course_less {K} {k} {size} {ns} {s} {t} (then {n = n} {t = u} v d c) = omega (arith, ap taken v, done_less k size s u n.edit _ refl d, course_less c)
 
 pub course_few : {K : Type 0} {k : Figures K} {size : ℕ} {ns : List (Entry K)} {s t : ℕ → State K} → Course k size ns s t → accepted_in ns ≤ 2 * (size - 1)
 course_few {K} {k} {size} {ns} {s} {t} c = omega (arith, course_less c, lefts_most s (size - 1))

@@ -1,65 +1,30 @@
 -- Edits that are done one after another: what one edit does, and what a list of them comes to.
-use Rattle.std.proofs.Common.{◌≡◌, ℕ, true, false, ◌⊎◌, List, [], ◌∷◌, ◌++◌, map, IfOk, IfErr, Some, None, Ok, Err, Option, Result, sym, refl, ap, ◌∙◌, subst, inl, inr, arith, MatchResult}
+use Rattle.std.proofs.Common.{◌≡◌, ℕ, true, false, List, [], ◌∷◌, ◌++◌, map, Option, Some, Ok, Err, Result, sym, refl, ap, ◌∙◌, subst, inl, inr, arith, OnOk, OnErr}
 use mathlib.Core.Path.{fun_ext}
 use Rattle.std.proofs.lemmas.List.{append-nil, append_assoc}
 use Rattle.std.proofs.lemmas.Bool.{cases_Bool, cases_eq, both_ways}
 use Rattle.lengths.specs.Figures.{Figures}
-use Rattle.books.specs.declared.causes.Refusal.{Refusal}
 use Rattle.books.specs.declared.causes.Refused.{Refused}
-use Rattle.books.specs.declared.edits.Answer.{Answer}
-use Rattle.books.specs.declared.edits.Answer.TheVariants as answers
 use Rattle.books.specs.declared.edits.Edit.{Edit}
 use Rattle.books.specs.declared.edits.Edit.TheVariants.{Growth, Strike}
 use Rattle.books.specs.declared.edits.Entry.{Entry}
 use Rattle.books.specs.declared.states.State.{State}
 use Rattle.books.specs.declared.states.State.TheVariants.{Blank, Struck, Standing}
-use Rattle.books.specs.Causes.{answered}
-use Rattle.books.specs.Edits.{Explains, Led, CalledFor, Done, Course, Tried, nothing, then, told, verdict, Wrote, end, wrote, idle}
+use Rattle.books.specs.Edits.{Explains, Led, CalledFor, Done, Course, Tried, nothing, then, verdict, Wrote, end, wrote, idle}
 use Rattle.books.specs.States.{is_struck, New, Hangs, Grown, StruckOut, Same}
 use Rattle.books.proofs.Runs.{entry_as}
-use Rattle.books.proofs.Steps.{unaccepted_step, growth_step, strike_step}
-use Rattle.books.proofs.Tables.{may_grow, may_strike}
+use Rattle.books.proofs.Steps.{step_led}
 
-pub no_cause : (tag : ℕ) (o : Option Refusal) → answers.Accepted ≡ told (answered tag tt o) → o ≡ None
-no_cause tag None e = refl
-no_cause tag (Some r) e = let z : ◌≡◌ {A = ℕ} 0 1 = cc in absurd (omega arith)
-
--- what a growth and a strike of a book did, from their own promises
-pub growth_did : {K : Type 0} (s t : ℕ → State K) (tag parent : ℕ) (run drop : K) (res : Result (Unit {0}) Refused) → MatchResult res (λ _. Grown s t tag (Standing parent run drop)) (λ _. Same s t) → Done (Growth tag parent run drop) (told res) s t
-growth_did s t tag parent run drop (Ok u) c = c
-growth_did s t tag parent run drop (Err f) c = c
-
-pub strike_did : {K : Type 0} (s t : ℕ → State K) (tag : ℕ) (res : Result (Unit {0}) Refused) → MatchResult res (λ _. StruckOut s t tag) (λ _. Same s t) → Done (Strike tag) (told res) s t
-strike_did s t tag (Ok u) c = c
-strike_did s t tag (Err f) c = c
-
--- what a refusal leaves
-pub when_refused : {X : Type 0} {a : Answer} (res : Result (Unit {0}) Refused) → a ≡ told res → IfErr res (λ _. X) → (a ≡ answers.Accepted → ⊥) → X
-when_refused (Ok u) e c n = absurd (n e)
-when_refused (Err f) e c n = c
-
--- what an acceptance does
-pub when_accepted : {X : Type 0} {a : Answer} (res : Result (Unit {0}) Refused) → a ≡ told res → IfOk res (λ _. X) → a ≡ answers.Accepted → X
-when_accepted (Ok u) e c y = c
-when_accepted (Err f) e c y = let z : ◌≡◌ {A = ℕ} 0 1 = cc in absurd (omega arith)
-
--- an edit that was answered and done so, under another name for each
-pub done_as : {K : Type 0} (s t : ℕ → State K) {e f : Edit K} {a b : Answer} → e ≡ f → a ≡ b → Done f b s t → Done e a s t
-done_as {K} s t {e} {f} {a} {b} p q d = subst (λ (x : Edit K). Done x a s t) (sym p) (subst (λ (y : Answer). Done f y s t) (sym q) d)
-
--- the list that led to the states goes on with an edit and its answer
-pub step_led : {K : Type 0} {k : Figures K} {h : List (Entry K)} {s t : ℕ → State K} (size : ℕ) (e : Edit K) (a : Answer)
-    → a ≡ verdict k size s e → Done e a s t → Led k h s → Led k (h ++ record { edit = e; answer = a } ∷ []) t
-step_led {K} {k} {h} {s} {t} size (Growth tag parent run drop) answers.Accepted v d led = growth_step led (may_grow k size s tag parent run drop (no_cause tag _ v)) d
-step_led {K} {k} {h} {s} {t} size (Strike tag) answers.Accepted v d led = strike_step led (may_strike size s tag (no_cause tag _ v)) d
-step_led {K} {k} {h} {s} {t} size (Growth tag parent run drop) answers.Waiting v d led = unaccepted_step h s t _ answers.Waiting (λ q. let z : ◌≡◌ {A = ℕ} 0 1 = cc in omega arith) d led
-step_led {K} {k} {h} {s} {t} size (Strike tag) answers.Waiting v d led = unaccepted_step h s t _ answers.Waiting (λ q. let z : ◌≡◌ {A = ℕ} 0 1 = cc in omega arith) d led
-step_led {K} {k} {h} {s} {t} size (Growth tag parent run drop) (answers.Refused f) v d led = unaccepted_step h s t _ (answers.Refused f) (λ q. let z : ◌≡◌ {A = ℕ} 0 1 = cc in omega arith) d led
-step_led {K} {k} {h} {s} {t} size (Strike tag) (answers.Refused f) v d led = unaccepted_step h s t _ (answers.Refused f) (λ q. let z : ◌≡◌ {A = ℕ} 0 1 = cc in omega arith) d led
+-- the list that led to the states goes on with an entry that was answered and done so
+step : {K : Type 0} {k : Figures K} {h : List (Entry K)} {s t : ℕ → State K} (size : ℕ) (n : Entry K)
+    → n.answer ≡ Some (verdict k size s n.edit) → Done n.edit (verdict k size s n.edit) s t → Led k h s → Led k (h ++ n ∷ []) t
+step {K} {k} {h} {s} {t} size n v d led =
+    let e : record { edit = n.edit; answer = Some (verdict k size s n.edit) } ≡ n = entry_as refl (sym v) in
+    subst (λ (x : Entry K). Led k (h ++ x ∷ []) t) e (step_led size n.edit _ refl d led)
 
 -- a course goes on at its end
 pub course_more : {K : Type 0} {k : Figures K} {size : ℕ} {ns : List (Entry K)} {s t u : ℕ → State K} (n : Entry K)
-    → Course k size ns s t → n.answer ≡ verdict k size t n.edit → Done n.edit n.answer t u → Course k size (ns ++ n ∷ []) s u
+    → Course k size ns s t → n.answer ≡ Some (verdict k size t n.edit) → Done n.edit (verdict k size t n.edit) t u → Course k size (ns ++ n ∷ []) s u
 course_more {K} {k} {size} {ns} {s} {t} {u} n (nothing same) v d =
     subst (λ (x : ℕ → State K). Course k size (n ∷ []) x u) (fun_ext same) (then v d (nothing (λ x. refl)))
 course_more n (then w e c) v d = then w e (course_more n c v d)
@@ -69,7 +34,7 @@ pub course_led : {K : Type 0} {k : Figures K} {size : ℕ} {ns : List (Entry K)}
 course_led {K} {k} {size} {ns} {s} {t} h (nothing same) led =
     subst (λ (x : ℕ → State K). Led k (h ++ []) x) (sym (fun_ext same)) (subst (λ (x : List (Entry K)). Led k x s) (sym (append-nil h)) led)
 course_led {K} {k} {size} {ns} {s} {t} h (then {n = n} {ns = rest} v d c) led =
-    subst (λ (x : List (Entry K)). Led k x t) (append_assoc h (n ∷ []) rest) (course_led (h ++ n ∷ []) c (step_led size n.edit n.answer v d led))
+    subst (λ (x : List (Entry K)). Led k x t) (append_assoc h (n ∷ []) rest) (course_led (h ++ n ∷ []) c (step size n v d led))
 
 -- every answer of a course is what the edits before it call for
 pub course_answered : {K : Type 0} {k : Figures K} {size : ℕ} {ns : List (Entry K)} {s t : ℕ → State K} (h : List (Entry K)) → Course k size ns s t → Led k h s → CalledFor k size h ns
@@ -77,11 +42,11 @@ course_answered h (nothing same) led [] n after p = let z : ◌≡◌ {A = ℕ} 
 course_answered h (nothing same) led (b ∷ before) n after p = let z : ◌≡◌ {A = ℕ} 0 1 = cc in absurd (omega arith)
 course_answered {K} {k} {size} {ns} {s} {t} h (then {n = m} {ns = rest} v d c) led [] n after p =
     let q : m ≡ n = cc in
-    (s, (subst (λ (x : List (Entry K)). Explains k x s) (sym (append-nil h)) led.explains, subst (λ (x : Entry K). x.answer ≡ verdict k size s x.edit) q v))
+    (s, (subst (λ (x : List (Entry K)). Explains k x s) (sym (append-nil h)) led.explains, subst (λ (x : Entry K). x.answer ≡ Some (verdict k size s x.edit)) q v))
 course_answered {K} {k} {size} {ns} {s} {t} h (then {n = m} {ns = rest} v d c) led (b ∷ before) n after p =
     let q : m ≡ b = cc in
     let r : rest ≡ before ++ n ∷ after = cc in
-    let a = course_answered (h ++ m ∷ []) c (step_led size m.edit m.answer v d led) before n after r in
+    let a = course_answered (h ++ m ∷ []) c (step size m v d led) before n after r in
     let e : (h ++ m ∷ []) ++ before ≡ h ++ b ∷ before = append_assoc h (m ∷ []) before ∙ ap (λ (x : Entry K). h ++ x ∷ before) q in
     (a.0, (subst (λ (x : List (Entry K)). Explains k x a.0) e a.1.0, a.1.1))
 
@@ -89,7 +54,7 @@ course_answered {K} {k} {size} {ns} {s} {t} h (then {n = m} {ns = rest} v d c) l
 pub struck_as : {K : Type 0} (x : State K) → is_struck x ≡ true → x ≡ Struck
 struck_as Blank e = let z : ◌≡◌ {A = ℕ} 0 1 = cc in absurd (omega arith)
 struck_as Struck e = refl
-struck_as (Standing p r d) e = let z : ◌≡◌ {A = ℕ} 0 1 = cc in absurd (omega arith)
+struck_as (Standing v) e = let z : ◌≡◌ {A = ℕ} 0 1 = cc in absurd (omega arith)
 
 pub out_apart : {K : Type 0} {s t : ℕ → State K} {tag : ℕ} → StruckOut s t tag → (x : ℕ) → is_struck (t x) ≡ false → (x ≡ tag → ⊥) × (Hangs s tag x → ⊥)
 out_apart {K} {s} {t} out x n =
@@ -110,13 +75,11 @@ grown_once {K} {s} {t} {u} {tag} a b x = elim (cases_eq x tag) [ inl e ↦ ap u 
 same_once : {K : Type 0} {s t u : ℕ → State K} → Same s t → Same s u → Same t u
 same_once a b x = b x ∙ sym (a x)
 
-done_once : {K : Type 0} (s t u : ℕ → State K) (e : Edit K) (a : Answer) → Done e a s t → Done e a s u → Same t u
-done_once s t u (Growth tag parent run drop) answers.Accepted a b = grown_once a b
-done_once s t u (Strike tag) answers.Accepted a b = out_once a b
-done_once s t u (Growth tag parent run drop) answers.Waiting a b = same_once a b
-done_once s t u (Strike tag) answers.Waiting a b = same_once a b
-done_once s t u (Growth tag parent run drop) (answers.Refused f) a b = same_once a b
-done_once s t u (Strike tag) (answers.Refused f) a b = same_once a b
+done_once : {K : Type 0} (s t u : ℕ → State K) (e : Edit K) (r : Result (Unit {0}) Refused) → Done e r s t → Done e r s u → Same t u
+done_once s t u (Growth tag x) (Ok v) a b = grown_once a b
+done_once s t u (Strike tag) (Ok v) a b = out_once a b
+done_once s t u (Growth tag x) (Err f) a b = same_once a b
+done_once s t u (Strike tag) (Err f) a b = same_once a b
 
 -- the same edits from the same states are answered alike and leave the same states
 pub course_once : {K : Type 0} {k : Figures K} {size : ℕ} {ns ms : List (Entry K)} {s t s' t' : ℕ → State K} → Course k size ns s t → Course k size ms s' t'
@@ -128,9 +91,9 @@ course_once {K} {k} {size} {ns} {ms} {s} {t} {s'} {t'} (then {n = n} {ns = xs} {
     let q : m.edit ≡ n.edit = cc in
     let r : map (λ (x : Entry K). x.edit) ys ≡ map (λ (x : Entry K). x.edit) xs = cc in
     let alike : s' ≡ s = fun_ext same in
-    let told' : m.answer ≡ n.answer = w ∙ ap (λ (x : ℕ → State K). verdict k size x m.edit) alike ∙ ap (verdict k size s) q ∙ sym v in
-    let e' : Done n.edit n.answer s u' = done_as s u' (sym q) (sym told') (subst (λ (x : ℕ → State K). Done m.edit m.answer x u') alike e) in
-    let rest = course_once c b r (done_once s u u' n.edit n.answer d e') in
+    let told' : m.answer ≡ n.answer = w ∙ ap (λ (x : ℕ → State K). Some (verdict k size x m.edit)) alike ∙ ap (λ (x : Edit K). Some (verdict k size s x)) q ∙ sym v in
+    let e' : Done n.edit (verdict k size s n.edit) s u' = subst (λ (x : Edit K). Done x (verdict k size s x) s u') q (subst (λ (x : ℕ → State K). Done m.edit (verdict k size x m.edit) x u') alike e) in
+    let rest = course_once c b r (done_once s u u' n.edit _ d e') in
     let one : m ≡ n = entry_as q told' in
     (ap (λ (x : Entry K). x ∷ ys) one ∙ ap (λ (zs : List (Entry K)). n ∷ zs) rest.0, rest.1)
 
@@ -142,18 +105,10 @@ new_same {K} {k} {s} {t} a b x = elim (cases_eq x 1) [ inl e ↦ ap t e ∙ b.ro
 pub tried_once : {K : Type 0} {k : Figures K} {size : ℕ} {edits : List (Edit K)} {ns ms : List (Entry K)} → Tried k size edits ns → Tried k size edits ms → ms ≡ ns
 tried_once a b = (course_once a.course b.course (b.same ∙ sym a.same) (new_same a.new b.new)).0
 
--- an answer is an acceptance, or not
-told_apart : (a : Answer) → (a ≡ answers.Accepted) ⊎ (a ≡ answers.Accepted → ⊥)
-told_apart answers.Waiting = inr (λ q. let z : ◌≡◌ {A = ℕ} 0 1 = cc in omega arith)
-told_apart answers.Accepted = inl refl
-told_apart (answers.Refused f) = inr (λ q. let z : ◌≡◌ {A = ℕ} 0 1 = cc in omega arith)
-
--- an edit more that was written, or was not
-pub wrote_more : {B K : Type 0} {w : B → Edit K → B → Type 0} {kept : B → B → Type 0} {ns : List (Entry K)} {a b c : B} (n : Entry K)
-    → Wrote w kept a ns b → (n.answer ≡ answers.Accepted → w b n.edit c) → ((n.answer ≡ answers.Accepted → ⊥) → kept b c) → Wrote w kept a (ns ++ n ∷ []) c
-wrote_more {B} {K} {w} {kept} {ns} {a} {b} {c} n (end e) f g = elim (told_apart n.answer) [
-  | inl y ↦ wrote y (subst (λ (x : B). w x n.edit c) e (f y)) (end refl)
-  | inr y ↦ idle y (subst (λ (x : B). kept x c) e (g y)) (end refl)
-]
-wrote_more n (wrote y h r) f g = wrote y h (wrote_more n r f g)
-wrote_more n (idle y h r) f g = idle y h (wrote_more n r f g)
+-- an edit more that was written, or was not, as it was answered
+pub wrote_more : {B K : Type 0} {w : B → Edit K → B → Type 0} {kept : B → B → Type 0} {ns : List (Entry K)} {a b c : B} (e : Edit K) (r : Result (Unit {0}) Refused)
+    → Wrote w kept a ns b → OnOk r (w b e c) → OnErr r (kept b c) → Wrote w kept a (ns ++ record { edit = e; answer = Some r } ∷ []) c
+wrote_more {B} {K} {w} {kept} {ns} {a} {b} {c} e (Ok u) (end q) f g = wrote refl (subst (λ (x : B). w x e c) q f) (end refl)
+wrote_more {B} {K} {w} {kept} {ns} {a} {b} {c} e (Err r) (end q) f g = idle (λ (p : ◌≡◌ {A = Option (Result (Unit {0}) Refused)} (Some (Err r)) (Some (Ok tt))). let z : ◌≡◌ {A = ℕ} 0 1 = cc in omega arith) (subst (λ (x : B). kept x c) q g) (end refl)
+wrote_more e r (wrote y h w) f g = wrote y h (wrote_more e r w f g)
+wrote_more e r (idle y h w) f g = idle y h (wrote_more e r w f g)

@@ -4,6 +4,7 @@ use Rattle.lengths.specs.Figures.{Figures}
 use Rattle.books.specs.declared.causes.Refusal.{Refusal}
 use Rattle.books.specs.declared.causes.Refusal.TheVariants.{OutOfRange, BadParent, BadRun, BadDrop, TagStands, TagStruck, ParentBlank, ParentStruck, TagBlank}
 use Rattle.books.specs.declared.causes.Refused.{Refused}
+use Rattle.books.specs.declared.states.Spur.{Spur}
 use Rattle.books.specs.declared.states.State.{State}
 use Rattle.books.specs.States.{is_blank, is_struck, stands}
 
@@ -36,12 +37,12 @@ first_cause (c ∷ cs) = pick c.0 c.1 (first_cause cs)
 -- growth, where the tag has the state at and the parent the state up: the tag is below 2 or above the size; the parent is 0
 -- or not smaller than the tag; the run is zero or no entry; the drop is no entry; the tag stands; it is struck; the parent is
 -- blank; it is struck
-abbrev pub growth_causes : {K : Type 0} → Figures K → ℕ → State K → State K → ℕ → ℕ → K → K → Table
-growth_causes k size at up tag parent run drop =
+abbrev pub growth_causes : {K : Type 0} → Figures K → ℕ → State K → State K → ℕ → Spur K → Table
+growth_causes k size at up tag s =
     (nat_lt tag 2 || nat_lt size tag, OutOfRange)
-    ∷ ((parent == 0 || nat_le tag parent, BadParent)
-    ∷ ((not (k.less k.zero run) || not (k.entry run), BadRun)
-    ∷ ((not (k.entry drop), BadDrop)
+    ∷ ((s.parent == 0 || nat_le tag s.parent, BadParent)
+    ∷ ((not (k.less k.zero s.run) || not (k.entry s.run), BadRun)
+    ∷ ((not (k.entry s.drop), BadDrop)
     ∷ ((stands at, TagStands)
     ∷ ((is_struck at, TagStruck)
     ∷ ((is_blank up, ParentBlank)

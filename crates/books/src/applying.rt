@@ -1,50 +1,34 @@
 // Doing edits on any book.
-ghost use Rattle.std.specs.Prelude.{◌≡◌, ℕ, ◌+◌, ◌-◌, ◌*◌, ◌≤◌, List, [], ◌∷◌, ◌++◌, map, ◌≢◌};
+ghost use Rattle.std.specs.Prelude.{◌≡◌, ℕ, ◌+◌, ◌-◌, ◌*◌, ◌≤◌, List, [], ◌∷◌, ◌++◌, map, OnOk, OnErr};
 ghost use Rattle.books.specs.declared.edits.Entry.{Entry as AnEntry};
 ghost use Rattle.books.specs.declared.states.State.{State};
-ghost use Rattle.books.specs.declared.edits.Answer.TheVariants.{Accepted};
 ghost use Rattle.books.specs.States.{New, Same, lefts};
-ghost use Rattle.books.specs.Edits.{Led, Answered, CalledFor, Course, Done, accepted_in, told, verdict, Wrote};
+ghost use Rattle.books.specs.Edits.{Led, Answered, CalledFor, Course, Done, accepted_in, verdict, Wrote};
 
 use crate::causes::Refused;
-use crate::edits::{Answer, Edit, Entry};
+use crate::edits::{Edit, Entry};
 use crate::interface::Book;
-
-/// What an edit was answered, as an answer to keep.
-fn kept(res: Result<(), Refused>) -> Answer
-    ensures { result ≡ told res }
-{
-    match res {
-        Ok(()) => Answer::Accepted,
-        Err(refused) => Answer::Refused(refused),
-    }
-}
 
 /// Does one edit on a book, and says what it was answered. If a list of edits led to the book, then that list with this edit
 /// and its answer leads to the book that it leaves.
-pub fn attempt<B: Book>(book: &mut B, edit: Edit<B::Kind>) -> Answer
+pub fn attempt<B: Book>(book: &mut B, edit: Edit<B::Kind>) -> Result<(), Refused>
     ensures answer { result ≡ verdict B.Kind.Length.figures (B.Book.extent book.old) (B.Book.state book.old) edit }
     ensures size { B.Book.extent book.new ≡ B.Book.extent book.old }
     ensures done { Done edit result (B.Book.state book.old) (B.Book.state book.new) }
-    ensures writes { result ≡ Accepted → B.Book.writes book.old edit book.new }
-    ensures refused { (result ≢ Accepted) → B.Book.keeps book.old book.new }
+    ensures writes { OnOk result (B.Book.writes book.old edit book.new) }
+    ensures refused { OnErr result (B.Book.keeps book.old book.new) }
     ensures leaves { (a : B) → B.Book.leaves a book.old → B.Book.leaves a book.new }
-    ensures led { (h : List (AnEntry B.Kind)) → Led B.Kind.Length.figures h (B.Book.state book.old) → Led B.Kind.Length.figures (h ++ record { edit = edit; answer = result } ∷ []) (B.Book.state book.new) }
+    ensures led { (h : List (AnEntry B.Kind)) → Led B.Kind.Length.figures h (B.Book.state book.old) → Led B.Kind.Length.figures (h ++ record { edit = edit; answer = Some result } ∷ []) (B.Book.state book.new) }
 {
     match edit {
-        Edit::Growth {
-            tag,
-            parent,
-            run,
-            drop,
-        } => kept(book.grow(tag, parent, run, drop)),
-        Edit::Strike { tag } => kept(book.strike(tag)),
+        Edit::Growth { tag, spur } => book.grow(tag, &spur),
+        Edit::Strike { tag } => book.strike(tag),
     }
 }
 
 /// Does edits on a book, one after another, and notes with each what it was answered. On a new book the list explains what
 /// stands: a tag other than the root stands exactly when its growth was accepted and no accepted strike named it or a tag that
-/// it hangs from, with that growth's parent, run and drop. On any other book, if an earlier list led to it, the two lists
+/// it hangs from, by that growth's spur. On any other book, if an earlier list led to it, the two lists
 /// together explain it. Any other book of this kind, size and states answers these edits alike and ends with the same states.
 /// Each accepted edit takes one from what may still be accepted, which is at most two for each tag but the root. Each writes
 /// what the book says that it writes, and every other edit keeps what the book says that it keeps.
@@ -62,9 +46,8 @@ pub fn apply<B: Book>(book: &mut B, entries: &mut [Entry<B::Kind>])
     ensures few { accepted_in entries.new ≤ 2 * (B.Book.extent book.old - 1) }
     ensures agree { (ns : List (AnEntry B.Kind)) (s t : ℕ → State B.Kind) → map (λ e. e.edit) ns ≡ map (λ e. e.edit) entries.new → Same (B.Book.state book.old) s → Course B.Kind.Length.figures (B.Book.extent book.old) ns s t → (ns ≡ entries.new) × Same (B.Book.state book.new) t }
 {
-    for i in 0..entries.len() {
-        let edit = entries[i].edit;
-        let answer = attempt(book, edit);
-        entries[i] = Entry { edit, answer };
+    for entry in entries.iter_mut() {
+        let answer = attempt(book, entry.edit);
+        entry.answer = Some(answer);
     }
 }

@@ -5,15 +5,15 @@ ghost use Rattle.books.specs.Causes.{refusal_number};
 /// Why a book refuses a call.
 #[derive(Clone, Copy, PartialEq, Eq, Debug)]
 pub enum Refusal {
-    OutOfRange,
-    BadParent,
-    BadRun,
-    BadDrop,
-    TagStands,
-    TagStruck,
-    ParentBlank,
-    ParentStruck,
-    TagBlank,
+    OutOfRange = 1,
+    BadParent = 2,
+    BadRun = 3,
+    BadDrop = 4,
+    TagStands = 5,
+    TagStruck = 6,
+    ParentBlank = 7,
+    ParentStruck = 8,
+    TagBlank = 9,
 }
 
 impl Refusal {
@@ -21,17 +21,7 @@ impl Refusal {
     pub fn number(self) -> u8
         ensures { result ≡ refusal_number self }
     {
-        match self {
-            Refusal::OutOfRange => 1,
-            Refusal::BadParent => 2,
-            Refusal::BadRun => 3,
-            Refusal::BadDrop => 4,
-            Refusal::TagStands => 5,
-            Refusal::TagStruck => 6,
-            Refusal::ParentBlank => 7,
-            Refusal::ParentStruck => 8,
-            Refusal::TagBlank => 9,
-        }
+        self as u8
     }
 }
 

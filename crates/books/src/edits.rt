@@ -1,47 +1,57 @@
 // Edits, and what each was answered.
 ghost use Rattle.std.specs.Prelude.{◌≡◌};
-ghost use Rattle.books.specs.Edits.{answer_number};
+ghost use Rattle.books.specs.Edits.{answer_number, tag_of, written};
 
 use crate::causes::Refused;
+use crate::states::{Spur, State};
 
-/// An edit: the growth of a tag, or the strike of one.
-#[derive(Clone, Copy)]
-pub enum Edit<K> {
-    Growth {
-        tag: u32,
-        parent: u32,
-        run: K,
-        drop: K,
-    },
-    Strike {
-        tag: u32,
-    },
-}
-
-/// What an edit was answered: nothing yet, or accepted, or a refusal.
+/// An edit: the growth of a tag by a spur, or the strike of one.
 #[derive(Clone, Copy, PartialEq, Eq, Debug)]
-pub enum Answer {
-    Waiting,
-    Accepted,
-    Refused(Refused),
+pub enum Edit<K> {
+    Growth { tag: u32, spur: Spur<K> },
+    Strike { tag: u32 },
 }
 
-impl Answer {
-    /// The number of this answer: 0 for accepted, else the number of the refusal; 255 where there is none yet.
-    pub fn number(self) -> u8
-        ensures { result ≡ answer_number self }
+impl<K: Copy> Edit<K> {
+    /// The tag that this edit names.
+    pub fn tag(self) -> u32
+        ensures { result ≡ tag_of self }
     {
         match self {
-            Answer::Waiting => 255,
-            Answer::Accepted => 0,
-            Answer::Refused(refused) => refused.cause.number(),
+            Edit::Growth { tag, .. } | Edit::Strike { tag } => tag,
+        }
+    }
+
+    /// The state that this edit says of its tag.
+    pub fn written(self) -> State<K>
+        ensures { result ≡ written self }
+    {
+        match self {
+            Edit::Growth { spur, .. } => State::Standing(spur),
+            Edit::Strike { .. } => State::Struck,
         }
     }
 }
 
+/// What an edit was answered: nothing yet, or accepted, or a refusal.
+pub type Answer = Option<Result<(), Refused>>;
+
 /// An edit with what it was answered.
-#[derive(Clone, Copy)]
+#[derive(Clone, Copy, PartialEq, Eq, Debug)]
 pub struct Entry<K> {
     pub edit: Edit<K>,
     pub answer: Answer,
+}
+
+impl<K: Copy> Entry<K> {
+    /// The number of the answer: 0 for accepted, else the number of the refusal; 255 where there is none yet.
+    pub fn number(&self) -> u8
+        ensures { result ≡ answer_number self.now.answer }
+    {
+        match self.answer {
+            None => 255,
+            Some(Ok(())) => 0,
+            Some(Err(refused)) => refused.cause.number(),
+        }
+    }
 }

@@ -4,11 +4,12 @@ ghost use Rattle.books.specs.declared.edits.Edit.{Edit as AnEdit};
 ghost use Rattle.books.specs.declared.edits.Edit.TheVariants.{Growth, Strike};
 ghost use Rattle.books.specs.declared.states.State.{State as AState};
 ghost use Rattle.books.specs.declared.states.State.TheVariants.{Standing};
-ghost use Rattle.books.specs.Causes.{answered, first_cause, growth_causes, strike_causes, look_causes};
+ghost use Rattle.books.specs.Causes.{answered, first_cause, look_causes};
+ghost use Rattle.books.specs.Edits.{verdict};
 ghost use Rattle.books.specs.States.{Lawful, Grown, StruckOut, Same};
 
 use crate::causes::Refused;
-use crate::states::State;
+use crate::states::{Spur, State};
 use lengths::Length;
 
 /// A book: it keeps the tree of a loom, in one kind of length.
@@ -42,24 +43,19 @@ pub trait Book {
     fn look(&self, tag: u32) -> Result<State<Self::Kind>, Refused>
         ensures { result ≡ answered tag (state self.now tag) (first_cause (look_causes (extent self.now) tag)) };
 
-    /// Grows a tag: it stands with this parent, run and drop. Refused, it changes no state, and keeps what the book says.
-    fn grow(
-        &mut self,
-        tag: u32,
-        parent: u32,
-        run: Self::Kind,
-        drop: Self::Kind,
-    ) -> Result<(), Refused>
-        ensures answer { result ≡ answered tag tt (first_cause (growth_causes Self.Kind.Length.figures (extent self.old) (state self.old tag) (state self.old parent) tag parent run drop)) }
+    /// Grows a tag: it stands by this spur. Refused, it changes no state, and keeps what the book says. (The spur is lent: by
+    /// value a struct of the kind's figures keeps a book's method from having these clauses.)
+    fn grow(&mut self, tag: u32, spur: &Spur<Self::Kind>) -> Result<(), Refused>
+        ensures answer { result ≡ verdict Self.Kind.Length.figures (extent self.old) (state self.old) (Growth tag spur.now) }
         ensures size { extent self.new ≡ extent self.old }
-        ensures states { MatchResult result (λ _. Grown (state self.old) (state self.new) tag (Standing parent run drop)) (λ _. Same (state self.old) (state self.new)) }
-        ensures writes { OnOk result (writes self.old (Growth tag parent run drop) self.new) }
+        ensures states { MatchResult result (λ _. Grown (state self.old) (state self.new) tag (Standing spur.now)) (λ _. Same (state self.old) (state self.new)) }
+        ensures writes { OnOk result (writes self.old (Growth tag spur.now) self.new) }
         ensures refused { OnErr result (keeps self.old self.new) }
         ensures leaves { (a : Self) → leaves a self.old → leaves a self.new };
 
     /// Strikes a tag, with every tag that hangs from it. Refused, it changes no state, and keeps what the book says.
     fn strike(&mut self, tag: u32) -> Result<(), Refused>
-        ensures answer { result ≡ answered tag tt (first_cause (strike_causes (extent self.old) (state self.old tag) tag)) }
+        ensures answer { result ≡ verdict Self.Kind.Length.figures (extent self.old) (state self.old) (Strike tag) }
         ensures size { extent self.new ≡ extent self.old }
         ensures states { MatchResult result (λ _. StruckOut (state self.old) (state self.new) tag) (λ _. Same (state self.old) (state self.new)) }
         ensures writes { OnOk result (writes self.old (Strike tag) self.new) }

@@ -3,42 +3,40 @@ ghost use Rattle.std.specs.Prelude.{◌≡◌, not, ◌||◌};
 ghost use Rattle.books.specs.Causes.{answered, first_cause, growth_causes, strike_causes, look_causes};
 
 use crate::causes::{Refusal, Refused};
-use crate::states::State;
+use crate::states::{Spur, State};
 use lengths::Length;
 
 /// The first cause against a growth, where the tag has the state `at` and its parent the state `up`.
 pub fn growth_cause<K: Length>(
     size: u32,
     tag: u32,
-    parent: u32,
-    run: K,
-    drop: K,
+    spur: &Spur<K>,
     at: State<K>,
     up: State<K>,
 ) -> Option<Refusal>
-    ensures { result ≡ first_cause (growth_causes K.figures size at up tag parent run drop) }
+    ensures { result ≡ first_cause (growth_causes K.figures size at up tag spur.now) }
 {
     if tag < 2 || tag > size {
         return Some(Refusal::OutOfRange);
     }
-    if parent == 0 || parent >= tag {
+    if spur.parent == 0 || spur.parent >= tag {
         return Some(Refusal::BadParent);
     }
-    if !K::zero().less(&run) || !run.is_entry() {
+    if !K::zero().less(&spur.run) || !spur.run.is_entry() {
         return Some(Refusal::BadRun);
     }
-    if !drop.is_entry() {
+    if !spur.drop.is_entry() {
         return Some(Refusal::BadDrop);
     }
     match at {
-        State::Standing { .. } => return Some(Refusal::TagStands),
+        State::Standing(_) => return Some(Refusal::TagStands),
         State::Struck => return Some(Refusal::TagStruck),
         State::Blank => {}
     }
     match up {
         State::Blank => Some(Refusal::ParentBlank),
         State::Struck => Some(Refusal::ParentStruck),
-        State::Standing { .. } => None,
+        State::Standing(_) => None,
     }
 }
 
@@ -52,7 +50,7 @@ pub fn strike_cause<K: Length>(size: u32, tag: u32, at: State<K>) -> Option<Refu
     match at {
         State::Blank => Some(Refusal::TagBlank),
         State::Struck => Some(Refusal::TagStruck),
-        State::Standing { .. } => None,
+        State::Standing(_) => None,
     }
 }
 

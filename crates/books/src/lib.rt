@@ -14,4 +14,4 @@ pub use causes::{Refusal, Refused};
 pub use edits::{Answer, Edit, Entry};
 pub use interface::Book;
 pub use judging::{answer_with, growth_cause, look_cause, strike_cause};
-pub use states::State;
+pub use states::{Spur, State};

@@ -1,9 +1,28 @@
 // The state of a tag.
+ghost use Rattle.std.specs.Prelude.{◌≡◌};
+ghost use Rattle.books.specs.States.{stands};
 
-/// What a book says of a tag: never grown, taken out for good, or standing with the parent, run and drop of its growth.
-#[derive(Clone, Copy)]
+/// A spur: how a point hangs on the loom: from which parent, by which run, and with which drop.
+#[derive(Clone, Copy, PartialEq, Eq, Debug)]
+pub struct Spur<K> {
+    pub parent: u32,
+    pub run: K,
+    pub drop: K,
+}
+
+/// What a book says of a tag: never grown, taken out for good, or standing by the spur of its growth.
+#[derive(Clone, Copy, PartialEq, Eq, Debug)]
 pub enum State<K> {
     Blank,
     Struck,
-    Standing { parent: u32, run: K, drop: K },
+    Standing(Spur<K>),
+}
+
+impl<K: Copy> State<K> {
+    /// Whether the tag stands.
+    pub fn is_standing(self) -> bool
+        ensures { result ≡ stands self }
+    {
+        matches!(self, State::Standing(_))
+    }
 }

@@ -1,5 +1,5 @@
 // The size of a table by the number of its rows, and where each refusal begins.
-use books::{Book, Refused};
+use books::{Book, Refused, Spur};
 use lengths::{KindM, Millimetres};
 use std::test::Fail;
 use tables::{Row, TableBook};
@@ -48,6 +48,6 @@ fn growths_are_refused_by_the_first_cause(rt: HostRuntime) {
     for (tag, parent, run, drop, answer) in GROWTHS {
         let run = Millimetres { value: run };
         let drop = Millimetres { value: drop };
-        assert!(rt; number(book.grow(tag, parent, run, drop)) == answer);
+        assert!(rt; number(book.grow(tag, &Spur { parent, run, drop })) == answer);
     }
 }

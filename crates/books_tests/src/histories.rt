@@ -1,18 +1,18 @@
 // Lists of edits on a table, with what each is answered.
-use books::{Answer, Edit, Entry, apply};
+use books::{Edit, Entry, Spur, apply};
 use lengths::{KindM, Millimetres};
 use tables::{Row, TableBook};
 
 /// A growth that has no answer yet, with a run of 5 and no drop.
 fn growth(tag: u32, parent: u32) -> Entry<KindM> {
+    let spur = Spur {
+        parent,
+        run: Millimetres { value: 5 },
+        drop: Millimetres { value: 0 },
+    };
     Entry {
-        edit: Edit::Growth {
-            tag,
-            parent,
-            run: Millimetres { value: 5 },
-            drop: Millimetres { value: 0 },
-        },
-        answer: Answer::Waiting,
+        edit: Edit::Growth { tag, spur },
+        answer: None,
     }
 }
 
@@ -20,16 +20,7 @@ fn growth(tag: u32, parent: u32) -> Entry<KindM> {
 fn strike(tag: u32) -> Entry<KindM> {
     Entry {
         edit: Edit::Strike { tag },
-        answer: Answer::Waiting,
-    }
-}
-
-/// The number of an answer: 0 for accepted.
-fn number(answer: Answer) -> u8 {
-    match answer {
-        Answer::Accepted => 0,
-        Answer::Refused(refused) => refused.cause.number(),
-        Answer::Waiting => 255,
+        answer: None,
     }
 }
 
@@ -52,6 +43,6 @@ fn what_was_struck_with_its_branch_stays_struck(rt: HostRuntime) {
     apply(&mut book, &mut entries);
     let answers = [0, 0, 0, 9, 0, 6, 6, 8, 0, 1];
     for (entry, answer) in entries.iter().zip(answers.iter()) {
-        assert!(rt; number(entry.answer) == *answer);
+        assert!(rt; entry.number() == *answer);
     }
 }

@@ -1,14 +1,15 @@
 -- What a log keeps after an accepted edit.
-use Rattle.std.proofs.Common.{◌≡◌, ℕ, zero, suc, ◌+◌, ◌-◌, ◌/◌, ◌<◌, min, List, [], ◌∷◌, ◌++◌, map, length, take, drop, set, None, sym, refl, ap, ◌∙◌, subst, arith}
+use Rattle.std.proofs.Common.{◌≡◌, ℕ, zero, suc, ◌+◌, ◌-◌, ◌/◌, ◌<◌, min, List, [], ◌∷◌, ◌++◌, map, length, take, drop, set, Some, Ok, Result, sym, refl, ap, ◌∙◌, subst, arith}
 use Rattle.std.proofs.lemmas.List.{length-set, map_push, take_more_set, take-set-le, drop-set-lt}
 use Rattle.lengths.specs.Figures.{Figures}
-use Rattle.books.specs.declared.edits.Answer.TheVariants as answers
+use Rattle.books.specs.declared.causes.Refused.{Refused}
 use Rattle.books.specs.declared.edits.Edit.{Edit}
 use Rattle.books.specs.declared.edits.Edit.TheVariants.{Growth, Strike}
 use Rattle.books.specs.declared.edits.Entry.{Entry}
+use Rattle.books.specs.declared.states.Spur.{Spur}
+use Rattle.books.specs.declared.states.State.{State}
 use Rattle.books.specs.declared.states.State.TheVariants.{Blank, Struck, Standing}
-use Rattle.books.specs.Causes.{answered, first_cause, growth_causes, strike_causes}
-use Rattle.books.specs.Edits.{accepted, told, verdict, Done, Course}
+use Rattle.books.specs.Edits.{accepted, verdict, Done, Course}
 use Rattle.books.specs.States.{left, Grown, StruckOut}
 use Rattle.books.proofs.Courses.{course_more}
 use Rattle.books.proofs.Steps.{standing_as}
@@ -41,8 +42,8 @@ leaves_more {K} {first} {before} entries used e l = record {
 
 -- a log that replays goes on so
 pub replays_more : {K : Type 0} {k : Figures K} (entries : List (Edit K)) (used : ℕ) (e : Edit K) → used < length entries
-    → answers.Accepted ≡ verdict k (extent_of entries) (log_state k entries used) e
-    → Done e answers.Accepted (log_state k entries used) (log_state k (set entries used e) (used + 1))
+    → Ok tt ≡ verdict k (extent_of entries) (log_state k entries used) e
+    → Done e (Ok tt) (log_state k entries used) (log_state k (set entries used e) (used + 1))
     → Replays k entries used → Replays k (set entries used e) (used + 1)
 replays_more {K} {k} entries used e h v d r =
     let next = log_state k (set entries used e) (used + 1) in
@@ -51,44 +52,50 @@ replays_more {K} {k} entries used e h v d r =
       fresh = r.fresh;
       new = r.new;
       course = subst (λ (n : ℕ). Course k n (map accepted (take (used + 1) (set entries used e))) r.fresh next) (sym (extent_set entries used e))
-          (subst (λ (ns : List (Entry K)). Course k (extent_of entries) ns r.fresh next) (sym more) (course_more (accepted e) r.course v d));
+          (subst (λ (ns : List (Entry K)). Course k (extent_of entries) ns r.fresh next) (sym more) (course_more (accepted e) r.course (ap Some v) (subst (λ (x : Result (Unit {0}) Refused). Done e x (log_state k entries used) next) v d)));
     }
 
--- an accepted growth
-module _ {K : Type 0} (k : Figures K) (entries : List (Edit K)) (used tag parent : ℕ) (run drop' : K) (kept : Kept (rows_of entries used)) (room : Roomy entries used)
-    (free : first_cause (growth_causes k (extent_of entries) (log_state k entries used tag) (log_state k entries used parent) tag parent run drop') ≡ None) where
-  grows : MayGrow k (extent_of entries) (log_state k entries used) tag parent run drop'
-  grows = may_grow k (extent_of entries) (log_state k entries used) tag parent run drop' free
+-- what is answered by rows that the edits come to is answered by the log
+pub log_as : {K X : Type 0} (k : Figures K) (entries : List (Edit K)) (used : ℕ) {rs : List (Row K)} (answer : ℕ → (ℕ → State K) → X) → rs ≡ rows_of entries used
+    → answer (rows.extent_of rs) (state_of k rs) ≡ answer (extent_of entries) (log_state k entries used)
+log_as k entries used answer e =
+    ap (λ rs. answer (rows.extent_of rs) (state_of k rs)) e ∙ ap (λ (n : ℕ). answer n (log_state k entries used)) (rows_extent entries used)
 
-  row_grows : MayGrow k (rows.extent_of (rows_of entries used)) (log_state k entries used) tag parent run drop'
-  row_grows = subst (λ (n : ℕ). MayGrow k n (log_state k entries used) tag parent run drop') (sym (rows_extent entries used)) grows
+-- an accepted growth
+module _ {K : Type 0} (k : Figures K) (entries : List (Edit K)) (used tag : ℕ) (spur : Spur K) (kept : Kept (rows_of entries used)) (room : Roomy entries used)
+    (ok : Ok tt ≡ verdict k (extent_of entries) (log_state k entries used) (Growth tag spur)) where
+  grows : MayGrow k (extent_of entries) (log_state k entries used) tag spur
+  grows = may_grow k (extent_of entries) (log_state k entries used) tag spur ok
+
+  row_grows : MayGrow k (rows.extent_of (rows_of entries used)) (log_state k entries used) tag spur
+  row_grows = subst (λ (n : ℕ). MayGrow k n (log_state k entries used) tag spur) (sym (rows_extent entries used)) grows
 
   was_blank : row_at (rows_of entries used) (tag - 2) ≡ Blank
-  was_blank = tag_blank k (rows_of entries used) tag parent run drop' kept row_grows
+  was_blank = tag_blank k (rows_of entries used) tag spur kept row_grows
 
   pub growth_fits : used < length entries
-  growth_fits = fits entries used (Growth tag parent run drop') grows.low grows.high room (omega (arith, ap left was_blank))
+  growth_fits = fits entries used (Growth tag spur) grows.low grows.high room (omega (arith, ap left was_blank))
 
-  growth_rows : rows_of (set entries used (Growth tag parent run drop')) (used + 1) ≡ set (rows_of entries used) (tag - 2) (row_of (Standing parent run drop'))
-  growth_rows = rows_set entries used (Growth tag parent run drop') grows.low grows.high room growth_fits
+  growth_rows : rows_of (set entries used (Growth tag spur)) (used + 1) ≡ set (rows_of entries used) (tag - 2) (row_of (Standing spur))
+  growth_rows = rows_set entries used (Growth tag spur) grows.low grows.high room growth_fits
 
-  pub growth_kept : Kept (rows_of (set entries used (Growth tag parent run drop')) (used + 1))
-  growth_kept = subst Kept (sym growth_rows) (grown_sound k (rows_of entries used) tag parent run drop' kept row_grows)
+  pub growth_kept : Kept (rows_of (set entries used (Growth tag spur)) (used + 1))
+  growth_kept = subst Kept (sym growth_rows) (grown_sound k (rows_of entries used) tag spur kept row_grows)
 
-  pub growth_room : Roomy (set entries used (Growth tag parent run drop')) (used + 1)
-  growth_room = roomy_more entries used (Growth tag parent run drop') grows.low grows.high room growth_fits (ap left was_blank)
+  pub growth_room : Roomy (set entries used (Growth tag spur)) (used + 1)
+  growth_room = roomy_more entries used (Growth tag spur) grows.low grows.high room growth_fits (ap left was_blank)
 
-  pub growth_states : Grown (log_state k entries used) (log_state k (set entries used (Growth tag parent run drop')) (used + 1)) tag (Standing parent run drop')
-  growth_states = subst (λ (rs : List (Row K)). Grown (log_state k entries used) (state_of k rs) tag (Standing parent run drop')) (sym growth_rows) (grown_rows k (rows_of entries used) tag parent run drop' kept row_grows)
+  pub growth_states : Grown (log_state k entries used) (log_state k (set entries used (Growth tag spur)) (used + 1)) tag (Standing spur)
+  growth_states = subst (λ (rs : List (Row K)). Grown (log_state k entries used) (state_of k rs) tag (Standing spur)) (sym growth_rows) (grown_rows k (rows_of entries used) tag spur kept row_grows)
 
-  pub growth_replays : Replays k entries used → Replays k (set entries used (Growth tag parent run drop')) (used + 1)
-  growth_replays = replays_more entries used (Growth tag parent run drop') growth_fits (sym (ap (λ o. told (answered tag tt o)) free)) growth_states
+  pub growth_replays : Replays k entries used → Replays k (set entries used (Growth tag spur)) (used + 1)
+  growth_replays = replays_more entries used (Growth tag spur) growth_fits ok growth_states
 
 -- an accepted strike
 module _ {K : Type 0} (k : Figures K) (entries : List (Edit K)) (used tag : ℕ) (kept : Kept (rows_of entries used)) (room : Roomy entries used)
-    (free : first_cause (strike_causes (extent_of entries) (log_state k entries used tag) tag) ≡ None) where
+    (ok : Ok tt ≡ verdict k (extent_of entries) (log_state k entries used) (Strike tag)) where
   strikes : MayStrike (extent_of entries) (log_state k entries used) tag
-  strikes = may_strike (extent_of entries) (log_state k entries used) tag free
+  strikes = may_strike k (extent_of entries) (log_state k entries used) tag ok
 
   row_strikes : MayStrike (rows.extent_of (rows_of entries used)) (log_state k entries used) tag
   row_strikes = subst (λ (n : ℕ). MayStrike n (log_state k entries used) tag) (sym (rows_extent entries used)) strikes
@@ -96,7 +103,7 @@ module _ {K : Type 0} (k : Figures K) (entries : List (Edit K)) (used tag : ℕ)
   was_standing : left (row_at (rows_of entries used) (tag - 2)) ≡ 1
   was_standing =
       let a = standing_as (log_state k entries used tag) strikes.up in
-      ap left (stood k (rows_of entries used) tag a.0 a.1.0 a.1.1.0 (λ e. omega (arith, strikes.low)) a.1.1.1).row
+      ap left (stood k (rows_of entries used) tag a.0 (λ e. omega (arith, strikes.low)) a.1).row
 
   pub strike_fits : used < length entries
   strike_fits = fits entries used (Strike tag) strikes.low strikes.high room (omega (arith, was_standing))
@@ -114,4 +121,4 @@ module _ {K : Type 0} (k : Figures K) (entries : List (Edit K)) (used tag : ℕ)
   strike_states = subst (λ (rs : List (Row K)). StruckOut (log_state k entries used) (state_of k rs) tag) (sym strike_rows) (struck_rows k (rows_of entries used) tag kept row_strikes)
 
   pub strike_replays : Replays k entries used → Replays k (set entries used (Strike tag)) (used + 1)
-  strike_replays = replays_more entries used (Strike tag) strike_fits (sym (ap (λ o. told (answered tag tt o)) free)) strike_states
+  strike_replays = replays_more entries used (Strike tag) strike_fits ok strike_states

@@ -1,73 +1,46 @@
 -- Marks that stand for rows.
-use Rattle.std.proofs.Common.{◌≡◌, ℕ, zero, suc, ◌+◌, ◌-◌, ◌<◌, ◌≤◌, leb, List, ◌∷◌, map, length, get_or, take, set, replicate, sym, refl, ap, ◌∙◌, inl, inr, arith}
-use Rattle.std.proofs.lemmas.List.{map-set, get_or-map, get_or_past, length-map, take_more, take-replicate}
+use Rattle.std.proofs.Common.{◌≡◌, ℕ, zero, suc, ◌+◌, ◌-◌, ◌<◌, ◌≤◌, leb, List, ◌∷◌, ◌++◌, Option, Some, None, length, get_or, take, set, replicate, sym, refl, ap, ◌∙◌, inl, inr, arith}
+use Rattle.std.proofs.lemmas.List.{map-set, get_or-map, take_all, take_more, take-append-le, take-replicate, length-replicate}
 use Rattle.std.proofs.lemmas.Bool.{cases_Bool, cond-true, cond-false}
 use Rattle.books.specs.declared.edits.Edit.{Edit}
+use Rattle.books.specs.declared.states.State.{State}
 use Rattle.books.specs.declared.states.State.TheVariants.{Blank}
-use Rattle.rows.specs.Rows.{row_of, row_at}
+use Rattle.rows.specs.Rows.{row_of}
 use Rattle.books.specs.Edits.{tag_of, written}
-use Rattle.logs.specs.Logs.{replay_one, replay, rows_of, extent_of}
+use Rattle.logs.specs.Logs.{replay_one, replay}
 use Rattle.logs.specs.Marks.{row_by, mark_one, rows_by}
 use Rattle.logs.proofs.Logging.{replay_more}
 
--- what a mark says is what the edit wrote
-row_of_mark : {K : Type 0} (edits : List (Edit K)) (i : ℕ) (d : Edit K) → i < length edits → row_by edits (i + 1) ≡ row_of (written (get_or edits i d))
-row_of_mark {K} edits i d h =
-    let on : i + 1 ≡ suc i = omega arith in
-    ap (row_by edits) on ∙ ap row_of (get_or-map written edits i d Blank h)
-
 -- an edit that is marked is replayed
-marked : {K : Type 0} (edits : List (Edit K)) (marks : List ℕ) (i : ℕ) (d : Edit K) → i < length edits
-    → rows_by edits (mark_one marks (get_or edits i d) (i + 1)) ≡ replay_one (rows_by edits marks) (get_or edits i d)
+marked : {K : Type 0} (edits : List (Edit K)) (marks : List (Option ℕ)) (i : ℕ) (d : Edit K) → i < length edits
+    → rows_by edits (mark_one marks (get_or edits i d) i) ≡ replay_one (rows_by edits marks) (get_or edits i d)
 marked {K} edits marks i d h =
     let t = tag_of (get_or edits i d) in
     elim (cases_Bool (leb 2 t)) [
       | inl y ↦
-          ap (rows_by edits) (cond-true _ _ _ y) ∙ map-set (row_by edits) marks (t - 2) (i + 1)
-          ∙ ap (set (rows_by edits marks) (t - 2)) (row_of_mark edits i d h) ∙ sym (cond-true _ _ _ y)
+          ap (rows_by edits) (cond-true _ _ _ y) ∙ map-set (row_by edits) marks (t - 2) (Some i)
+          ∙ ap (λ (s : State K). set (rows_by edits marks) (t - 2) (row_of s)) (get_or-map written edits i d Blank h) ∙ sym (cond-true _ _ _ y)
       | inr n ↦ ap (rows_by edits) (cond-false _ _ _ n) ∙ sym (cond-false _ _ _ n)
     ]
 
 -- one edit more
-pub marked_next : {K : Type 0} (edits : List (Edit K)) (marks all : List ℕ) (i : ℕ) (d : Edit K) → i < length edits
+pub marked_next : {K : Type 0} (edits : List (Edit K)) (marks all : List (Option ℕ)) (i : ℕ) (d : Edit K) → i < length edits
     → rows_by edits marks ≡ replay (rows_by edits all) (take i edits)
-    → rows_by edits (mark_one marks (get_or edits i d) (i + 1)) ≡ replay (rows_by edits all) (take (i + 1) edits)
+    → rows_by edits (mark_one marks (get_or edits i d) i) ≡ replay (rows_by edits all) (take (i + 1) edits)
 marked_next edits marks all i d h e =
     marked edits marks i d h ∙ ap (λ rs. replay_one rs (get_or edits i d)) e
     ∙ sym (ap (replay (rows_by edits all)) (take_more edits i d h) ∙ replay_more (rows_by edits all) (take i edits) (get_or edits i d))
 
 -- no marks are blank rows
-no_marks : {K : Type 0} (edits : List (Edit K)) (n : ℕ) → rows_by edits (replicate n 0) ≡ replicate n (row_of Blank)
+pub no_marks : {K : Type 0} (edits : List (Edit K)) (n : ℕ) → rows_by edits (replicate n None) ≡ replicate n (row_of Blank)
 no_marks edits zero = refl
 no_marks edits (suc n) = ap (λ rs. row_of Blank ∷ rs) (no_marks edits n)
 
--- the edits of a log, marked, are its rows
-pub log_marked : {K : Type 0} (entries : List (Edit K)) (used size : ℕ) (marks : List ℕ) → size ≡ extent_of entries
-    → rows_by (take used entries) marks ≡ replay (rows_by (take used entries) (take (size - 1) (replicate 255 0))) (take used entries)
-    → rows_by (take used entries) marks ≡ rows_of entries used
-unfolding rows_of
-log_marked entries used size marks e h =
-    let edits = take used entries in
-    h ∙ ap (λ (ms : List ℕ). replay (rows_by edits ms) edits) (take-replicate (size - 1) 255 0 (omega arith))
-    ∙ ap (λ (n : ℕ). replay (rows_by edits (replicate (n - 1) 0)) edits) e ∙ ap (λ rs. replay rs edits) (no_marks edits (extent_of entries - 1))
-
--- what a row is found to say, by its mark
-module _ {K : Type 0} (edits : List (Edit K)) (marks : List ℕ) (index : ℕ) where
-  pub row_past : length marks ≤ index → Blank ≡ row_at (rows_by edits marks) index
-  row_past h = sym (ap (λ r. r.state) (get_or_past (rows_by edits marks) index (row_of Blank) (omega (arith, length-map marks (row_by edits)))))
-
-  pub row_marked : index < length marks → (row_by edits (get_or marks index 0)).state ≡ row_at (rows_by edits marks) index
-  row_marked h = sym (ap (λ r. r.state) (get_or-map (row_by edits) marks index 0 (row_of Blank) h))
-
--- what a mark says
-pub mark_none : {K : Type 0} (edits : List (Edit K)) (m : ℕ) → m < 1 → Blank ≡ (row_by edits m).state
-mark_none edits zero h = refl
-mark_none edits (suc m) h = absurd (omega arith)
-
-pub mark_past : {K : Type 0} (edits : List (Edit K)) (m : ℕ) → length edits < m → Blank ≡ (row_by edits m).state
-mark_past edits zero h = refl
-mark_past edits (suc m) h = sym (get_or_past (map written edits) m Blank (omega (arith, length-map edits written)))
-
-pub mark_some : {K : Type 0} (edits : List (Edit K)) (m : ℕ) (d : Edit K) → 1 ≤ m → m ≤ length edits → written (get_or edits (m - 1) d) ≡ (row_by edits m).state
-mark_some edits zero d a b = absurd (omega arith)
-mark_some edits (suc m) d a b = let on : suc m - 1 ≡ m = omega arith in ap (λ n. written (get_or edits n d)) on ∙ sym (get_or-map written edits m d Blank (omega arith))
+-- edits that are marked on no marks come to what they come to on blank rows
+pub marked_rows : {K : Type 0} (edits : List (Edit K)) (count : ℕ) (marks rest : List (Option ℕ)) → count ≤ 255 → length marks ≡ length (take count (replicate {A = Option ℕ} 255 None))
+    → rows_by edits marks ≡ replay (rows_by edits (take count (replicate 255 None))) edits → rows_by edits (take count (marks ++ rest)) ≡ replay (replicate count (row_of Blank)) edits
+marked_rows edits count marks rest within long h =
+    let none : take count (replicate {A = Option ℕ} 255 None) ≡ replicate count None = take-replicate count 255 None within in
+    let all : length marks ≡ count = long ∙ ap length none ∙ length-replicate count None in
+    ap (rows_by edits) (take-append-le count marks rest (omega arith) ∙ take_all count marks (omega arith))
+    ∙ h ∙ ap (λ (ms : List (Option ℕ)). replay (rows_by edits ms) edits) none ∙ ap (λ rs. replay rs edits) (no_marks edits count)

@@ -1,89 +1,76 @@
 // Replaying edits: the rows that they come to.
-ghost use Rattle.std.specs.Prelude.{◌≡◌};
-ghost use Rattle.books.specs.Edits.{tag_of, written};
+ghost use Rattle.std.specs.Prelude.{◌≡◌, ◌≤◌, replicate, take};
+ghost use Rattle.books.specs.declared.states.State.TheVariants.{Blank};
 ghost use Rattle.logs.specs.Logs.{replay};
 ghost use Rattle.logs.specs.Marks.{mark_one, rows_by};
+ghost use Rattle.rows.specs.Rows.{row_of};
 
 use books::{Edit, State};
 use lengths::Length;
 use rows::{Rows, size_for};
 
-/// The rows that edits come to, each kept as a mark: 0 for a blank row, and else one more than the index of the last edit of
-/// its tag. (Rows of their own would take memory by the kind.)
+/// The rows that edits come to, each kept as a mark: the index of the last edit of its tag, or none for a blank row. (Rows of
+/// their own would take memory by the kind.)
 #[derive(Drop)]
 pub(crate) struct Replayed<'e, K> {
     pub(crate) edits: &'e [Edit<K>],
-    pub(crate) marks: &'e [usize],
+    pub(crate) marks: [Option<usize>; 255],
+    // how many rows there are, so many of the marks
+    pub(crate) count: usize,
+    ghost within: { count ≤ 255 },
 }
 
-/// The tag that an edit names.
-fn tag_of<K: Copy>(edit: Edit<K>) -> u32
-    ensures { result ≡ tag_of edit }
+/// Marks the row of an edit's tag, if there is one.
+fn mark_one<K: Copy>(marks: &mut [Option<usize>], edit: Edit<K>, index: usize)
+    ensures { marks.new ≡ mark_one marks.old edit index }
 {
-    match edit {
-        Edit::Growth { tag, .. } => tag,
-        Edit::Strike { tag } => tag,
+    let tag = edit.tag() as usize;
+    if tag >= 2 && tag - 2 < marks.len() {
+        marks[tag - 2] = Some(index);
     }
-}
-
-/// What an edit writes of its tag.
-fn written<K: Copy>(edit: Edit<K>) -> State<K>
-    ensures { result ≡ written edit }
-{
-    match edit {
-        Edit::Growth {
-            parent,
-            run,
-            drop,
-            ..
-        } => State::Standing { parent, run, drop },
-        Edit::Strike { .. } => State::Struck,
-    }
-}
-
-/// Marks the row of an edit's tag.
-fn mark_one<K: Copy>(marks: &mut [usize], edit: Edit<K>, mark: usize)
-    ensures { marks.new ≡ mark_one marks.old edit mark }
-{
-    let tag = tag_of(edit) as usize;
-    if tag < 2 {
-        return;
-    }
-    if tag - 2 >= marks.len() {
-        return;
-    }
-    marks[tag - 2] = mark;
 }
 
 /// Replays edits, oldest first, into marks.
-pub(crate) fn mark<K: Copy>(marks: &mut [usize], edits: &[Edit<K>])
+fn mark<K: Copy>(marks: &mut [Option<usize>], edits: &[Edit<K>])
     ensures { rows_by edits.now marks.new ≡ replay (rows_by edits.now marks.old) edits.now }
 {
-    for i in 0..edits.len() {
-        mark_one(marks, edits[i], i + 1);
+    for (index, edit) in edits.iter().enumerate() {
+        mark_one(marks, *edit, index);
+    }
+}
+
+impl<'e, K: Length> Replayed<'e, K> {
+    /// Replays edits, oldest first, on so many blank rows.
+    pub(crate) fn new(edits: &'e [Edit<K>], count: usize) -> Replayed<'e, K>
+        requires { count ≤ 255 }
+        ensures { rows_by result.edits.now (take result.count result.marks) ≡ replay (replicate count (row_of Blank)) edits.entry.now }
+    {
+        let mut marks = [None; 255];
+        mark(&mut marks[..count], edits);
+        Replayed {
+            edits,
+            marks,
+            count,
+        }
     }
 }
 
 impl<'e, K: Length> Rows for Replayed<'e, K> {
     type Kind = K;
 
-    ghost rows = { λ b. rows_by b.edits.now b.marks.now };
+    ghost rows = { λ b. rows_by b.edits.now (take b.count b.marks) };
 
     fn extent(&self) -> u32 {
-        size_for(self.marks.len())
+        size_for(self.count)
     }
 
     fn row(&self, index: usize) -> State<K> {
-        if index >= self.marks.len() {
+        let Some(Some(last)) = self.marks[..self.count].get(index) else {
             return State::Blank;
-        }
-        let mark = self.marks[index];
-        if mark < 1 {
+        };
+        let Some(edit) = self.edits.get(*last) else {
             return State::Blank;
-        }
-        if mark > self.edits.len() {
-            return State::Blank;
-        }
-        written(self.edits[mark - 1])
+        };
+        edit.written()
     }
 }

@@ -1,5 +1,5 @@
 // The size of a log by the memory lent to it, what each book finds there, and where each refusal of a log begins.
-use books::{Book, Edit, Refused, State};
+use books::{Book, Edit, Refused, Spur, State};
 use lengths::{KindM, Millimetres};
 use logs::LogBook;
 use std::test::Fail;
@@ -32,9 +32,18 @@ fn a_log_has_one_tag_more_than_pairs_of_entries_up_to_256(rt: HostRuntime) -> Re
 
 /// Whether every tag but the root is blank in a book of three tags.
 fn is_new<B: Book>(book: &B) -> bool {
-    match (book.look(2), book.look(3)) {
-        (Ok(State::Blank), Ok(State::Blank)) => true,
-        _ => false,
+    matches!(
+        (book.look(2), book.look(3)),
+        (Ok(State::Blank), Ok(State::Blank))
+    )
+}
+
+/// A spur on the root with this run and no drop.
+fn on_the_root(run: u64) -> Spur<KindM> {
+    Spur {
+        parent: 1,
+        run: Millimetres { value: run },
+        drop: Millimetres { value: 0 },
     }
 }
 
@@ -42,18 +51,13 @@ fn is_new<B: Book>(book: &B) -> bool {
 fn growth(tag: u32) -> Edit<KindM> {
     Edit::Growth {
         tag,
-        parent: 1,
-        run: Millimetres { value: 7 },
-        drop: Millimetres { value: 0 },
+        spur: on_the_root(7),
     }
 }
 
 /// Whether an edit is the growth of this tag.
 fn grows(edit: Edit<KindM>, at: u32) -> bool {
-    match edit {
-        Edit::Growth { tag, .. } => tag == at,
-        Edit::Strike { .. } => false,
-    }
+    matches!(edit, Edit::Growth { tag, .. } if tag == at)
 }
 
 #[test]
@@ -62,10 +66,7 @@ fn a_log_opened_on_old_entries_is_new_and_leaves_those_it_does_not_use(rt: HostR
     let mut book = LogBook::open(&mut entries);
     assert!(rt; is_new(&book));
     assert!(rt; book.strike(2).is_err());
-    assert!(rt;
-        book.grow(3, 1, Millimetres { value: 5 }, Millimetres { value: 0 })
-            .is_ok()
-    );
+    assert!(rt; book.grow(3, &on_the_root(5)).is_ok());
     drop(book);
     assert!(rt; grows(entries[0], 3));
     assert!(rt; grows(entries[1], 3) && grows(entries[2], 2) && grows(entries[3], 3));
@@ -75,10 +76,7 @@ fn a_log_opened_on_old_entries_is_new_and_leaves_those_it_does_not_use(rt: HostR
 fn a_table_opened_on_old_rows_is_new(rt: HostRuntime) {
     let mut rows = [Row::<KindM>::blank(); 2];
     let mut book = TableBook::open(&mut rows);
-    assert!(rt;
-        book.grow(2, 1, Millimetres { value: 5 }, Millimetres { value: 0 })
-            .is_ok()
-    );
+    assert!(rt; book.grow(2, &on_the_root(5)).is_ok());
     drop(book);
     let book = TableBook::open(&mut rows);
     assert!(rt; is_new(&book));
@@ -115,6 +113,6 @@ fn growths_are_refused_by_the_first_cause_in_a_log(rt: HostRuntime) {
     for (tag, parent, run, drop, answer) in GROWTHS {
         let run = Millimetres { value: run };
         let drop = Millimetres { value: drop };
-        assert!(rt; number(book.grow(tag, parent, run, drop)) == answer);
+        assert!(rt; number(book.grow(tag, &Spur { parent, run, drop })) == answer);
     }
 }

@@ -1,19 +1,12 @@
 -- Rows that are made blank.
-use Rattle.std.proofs.Common.{◌≡◌, ℕ, ◌-◌, ◌<◌, List, length, set, sym, ap, ◌∙◌, inl, inr, arith}
-use Rattle.std.proofs.lemmas.List.{get_or-set_same, get_or-set_other}
+use Rattle.std.proofs.Common.{◌≡◌, ℕ, ◌-◌, ◌<◌, List, sym, ap, ◌∙◌, inl, inr, arith}
 use Rattle.std.proofs.lemmas.Bool.{cases_lt}
 use Rattle.lengths.specs.Figures.{Figures}
 use Rattle.books.specs.declared.states.State.TheVariants.{Blank}
 use Rattle.books.specs.States.{New}
 use Rattle.rows.specs.declared.row.Row.{Row}
-use Rattle.rows.specs.Rows.{row_of, row_at, extent_of, read, state_of, sound, Kept}
+use Rattle.rows.specs.Rows.{row_at, extent_of, read, state_of, sound, Kept}
 use Rattle.rows.proofs.Meaning.{state_root, state_low, state_beyond, state_row, read_blank}
-
-pub blank_here : {K : Type 0} (rows : List (Row K)) (i : ℕ) → i < length rows → row_at (set rows i (row_of Blank)) i ≡ Blank
-blank_here {K} rows i h = ap (λ (r : Row K). r.state) (get_or-set_same rows i (row_of Blank) (row_of Blank) h)
-
-pub blank_other : {K : Type 0} (rows : List (Row K)) (i j : ℕ) → (j ≡ i → ⊥) → row_at (set rows i (row_of Blank)) j ≡ row_at rows j
-blank_other {K} rows i j n = ap (λ (r : Row K). r.state) (get_or-set_other rows i j (row_of Blank) (row_of Blank) n)
 
 module _ {K : Type 0} (rows : List (Row K)) (blank : (i : ℕ) → i < 255 → row_at rows i ≡ Blank) where
   pub blank_kept : Kept rows

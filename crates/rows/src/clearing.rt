@@ -4,7 +4,6 @@ ghost use Rattle.books.specs.declared.states.State.TheVariants.{Blank};
 ghost use Rattle.rows.specs.Rows.{row_at};
 
 use crate::row::Row;
-use books::State;
 
 /// Makes each of the first 255 rows blank.
 pub fn clear<K: Copy>(rows: &mut [Row<K>])
@@ -13,9 +12,5 @@ pub fn clear<K: Copy>(rows: &mut [Row<K>])
     ensures rest { drop 255 rows.new ≡ drop 255 rows.old }
 {
     let used = rows.len().min(255);
-    for i in 0..used {
-        rows[i] = Row {
-            state: State::Blank,
-        };
-    }
+    rows[..used].fill(Row::blank());
 }

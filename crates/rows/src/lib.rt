@@ -4,10 +4,12 @@
 
 mod clearing;
 mod interface;
+mod judging;
 mod reading;
 mod row;
 
 pub use clearing::clear;
 pub use interface::Rows;
+pub use judging::{judge_growth, judge_look, judge_strike};
 pub use reading::{row_at, size_for, state_at};
 pub use row::Row;

@@ -7,7 +7,7 @@ use books::State;
 
 /// What was last written of one tag. What a row says of a standing tag counts only while its parent stands: so a strike writes
 /// one row, and every tag that hangs from the struck one is struck with it.
-#[derive(Clone, Copy)]
+#[derive(Clone, Copy, PartialEq, Eq, Debug)]
 pub struct Row<K> {
     pub state: State<K>,
 }
@@ -17,7 +17,8 @@ impl<K> Row<K> {
     pub fn blank() -> Row<K>
         ensures { result ≡ row_of Blank }
     {
-        let state = State::Blank;
-        Row { state }
+        Row {
+            state: State::Blank,
+        }
     }
 }

@@ -3,8 +3,6 @@
 
 mod lent;
 mod opening;
-mod reading;
-mod rows;
 mod table;
 
 pub use lent::TableBook;

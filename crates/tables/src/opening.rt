@@ -2,36 +2,11 @@
 ghost use Rattle.std.specs.Prelude.{◌≡◌, ℕ, ◌+◌, ◌<◌, min, length, drop};
 ghost use Rattle.books.specs.declared.states.State.TheVariants.{Blank};
 ghost use Rattle.books.specs.States.{New};
-ghost use Rattle.tables.specs.Rows.{row_of, row_at, extent_of, state_of};
+ghost use Rattle.rows.specs.Rows.{row_at, extent_of, state_of};
 
 use crate::lent::TableBook;
-use crate::rows::Row;
-use books::State;
 use lengths::Length;
-
-/// Makes each of the first 255 rows blank.
-fn clear<K: Copy>(rows: &mut [Row<K>])
-    ensures used { (i : ℕ) → i < 255 → row_at rows.new i ≡ Blank }
-    ensures long { length rows.new ≡ length rows.old }
-    ensures rest { drop 255 rows.new ≡ drop 255 rows.old }
-{
-    let used = rows.len().min(255);
-    for i in 0..used {
-        rows[i] = Row {
-            state: State::Blank,
-        };
-    }
-}
-
-impl<K> Row<K> {
-    /// A row of a tag that was never grown: what memory for a table is made of.
-    pub fn blank() -> Row<K>
-        ensures { result ≡ row_of Blank }
-    {
-        let state = State::Blank;
-        Row { state }
-    }
-}
+use rows::{Row, clear};
 
 impl<'a, K: Length> TableBook<'a, K> {
     /// Opens a new book on rows of any number and content. The rows after the first 255 keep their content.

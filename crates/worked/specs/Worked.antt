@@ -9,7 +9,7 @@ use Rattle.worked.specs.declared.Case.{Case}
 
 -- the growth of a tag in kind M, without a drop
 abbrev pub growth_of : ℕ → ℕ → ℕ → Edit Millimetres
-growth_of tag parent run = Growth tag parent (record { value = run }) (record { value = 0 })
+growth_of tag parent run = Growth tag (record { parent = parent; run = record { value = run }; drop = record { value = 0 } })
 
 -- an edit with the number of its answer
 abbrev pub case : Edit Millimetres → ℕ → Case

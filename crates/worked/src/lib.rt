@@ -5,11 +5,11 @@ ghost use Rattle.std.specs.Prelude.{◌≡◌};
 ghost use Rattle.books.specs.declared.edits.Edit.TheVariants.{Strike};
 ghost use Rattle.worked.specs.Worked.{growth_of, case, cases, WorkedOut};
 
-use books::Edit;
+use books::{Edit, Spur};
 use lengths::{KindM, Millimetres};
 
 /// An edit, and the number of its answer.
-#[derive(Clone, Copy)]
+#[derive(Clone, Copy, PartialEq, Eq, Debug)]
 pub struct Case {
     pub edit: Edit<KindM>,
     pub number: u8,
@@ -19,12 +19,12 @@ pub struct Case {
 fn growth(tag: u32, parent: u32, run: u64) -> Edit<KindM>
     ensures { result ≡ growth_of tag parent run }
 {
-    Edit::Growth {
-        tag,
+    let spur = Spur {
         parent,
         run: Millimetres { value: run },
         drop: Millimetres { value: 0 },
-    }
+    };
+    Edit::Growth { tag, spur }
 }
 
 /// An edit with the number of its answer.

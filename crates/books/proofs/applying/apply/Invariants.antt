@@ -1,17 +1,15 @@
-use Rattle.std.proofs.Common.{◌≡◌, List, ◌++◌, map, take}
-use Rattle.books.specs.declared.edits.Entry.{Entry}
-use Rattle.books.specs.Edits.{Led, Answered, Course, Wrote}
+use Rattle.std.proofs.Common.{◌≡◌, map, take}
+use Rattle.books.specs.Edits.{Course, Wrote}
 use Rattle.books.proofs.applying.apply.Given as goal
 
-abbrev pub invariant-loop-i : goal.invariant-loop-i
-invariant-loop-i g l =
+abbrev pub invariant-loop-entry : goal.invariant-loop-entry
+invariant-loop-entry g l =
     let k = g.B.Kind.Length.figures in
     let n = g.B.Book.extent l.initial.book in
-    let s = g.B.Book.state l.initial.book in
-    (map (λ e. e.edit) l.entries ≡ map (λ e. e.edit) l.initial.entries)
-    × (g.B.Book.extent l.book ≡ n)
-    × ((h : List (Entry g.row.B-Kind.Denot)) → Led k h s → Led k (h ++ take l.i l.entries) (g.B.Book.state l.book))
-    × ((h : List (Entry g.row.B-Kind.Denot)) → Led k h s → Answered k n h (take l.i l.entries))
-    × Course k n (take l.i l.entries) s (g.B.Book.state l.book)
-    × ((a : g.row.B.Denot) → g.B.Book.leaves a l.initial.book → g.B.Book.leaves a l.book)
-    × Wrote g.B.Book.writes g.B.Book.keeps l.initial.book (take l.i l.entries) l.book
+    record {
+      edits : map (λ e. e.edit) l.entries ≡ map (λ e. e.edit) l.initial.entries;
+      size : g.B.Book.extent l.book ≡ n;
+      course : Course k n (take l.entry-index l.entries) (g.B.Book.state l.initial.book) (g.B.Book.state l.book);
+      leaves : (a : g.row.B.Denot) → g.B.Book.leaves a l.initial.book → g.B.Book.leaves a l.book;
+      wrote : Wrote g.B.Book.writes g.B.Book.keeps l.initial.book (take l.entry-index l.entries) l.book;
+    }

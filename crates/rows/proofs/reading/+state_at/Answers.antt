@@ -3,7 +3,7 @@ use Rattle.books.specs.States.{stands}
 use Rattle.rows.specs.Rows.{fit, state_of}
 use Rattle.rows.proofs.Meaning.{state_root, state_low, state_beyond, said, read_blank, read_struck, read_stands, read_unfit, read_fallen}
 use Rattle.rows.proofs.reading.+state_at.Goals as goal
-use Rattle.rows.proofs.reading.+state_at.Goals.{then-tag-lt2-via-then-tag-lt2, then-tag-lt2-via-else-tag-lt2+then-tag-extent}
+use Rattle.rows.proofs.reading.+state_at.Goals.{then-tag-lt2-via-then-tag-lt2, then-tag-lt2-via-else-tag-lt2+then-tag-extent, else-fits-via-then-fits+else-is_standing, else-fits-via-else-fits}
 
 pub returns-then-tag-eq1 : goal.returns-then-tag-eq1
 returns-then-tag-eq1 g t c =
@@ -24,38 +24,31 @@ pub returns-in-Blank : goal.returns-in-Blank
 returns-in-Blank g t c =
     let k = g.R.Kind.Length.figures in
     let rows = g.R.Rows.rows c.args.rows.now in
-    read_blank k c.args.tag (state_of k rows) ∙ said k rows c.args.tag _ c.if-tag-lt2.false (omega (arith, c.extent.ensures, c.if-tag-extent.false)) (sym c.row-said.ensures ∙ c.in-Blank.is)
+    read_blank k c.args.tag (state_of k rows) ∙ said k rows c.args.tag _ c.if-tag-lt2.false (omega (arith, c.extent.ensures, c.if-tag-extent.false)) (sym c.row.ensures ∙ c.in-Blank.is)
 
 pub returns-in-Struck : goal.returns-in-Struck
 returns-in-Struck g t c =
     let k = g.R.Kind.Length.figures in
     let rows = g.R.Rows.rows c.args.rows.now in
-    read_struck k c.args.tag (state_of k rows) ∙ said k rows c.args.tag _ c.if-tag-lt2.false (omega (arith, c.extent.ensures, c.if-tag-extent.false)) (sym c.row-said.ensures ∙ c.in-Struck.is)
+    read_struck k c.args.tag (state_of k rows) ∙ said k rows c.args.tag _ c.if-tag-lt2.false (omega (arith, c.extent.ensures, c.if-tag-extent.false)) (sym c.row.ensures ∙ c.in-Struck.is)
 
-pub returns-then-not-fits : goal.returns-then-not-fits
-returns-then-not-fits g t c =
+pub returns-then-is_standing : goal.returns-then-is_standing
+returns-then-is_standing g t c =
     let k = g.R.Kind.Length.figures in
     let rows = g.R.Rows.rows c.args.rows.now in
-    let p = c.in-Standing.parent in
-    let no : fit k c.args.tag p c.in-Standing.run' c.in-Standing.drop ≡ false = search rules in
-    read_unfit k c.args.tag (state_of k rows) p c.in-Standing.run' c.in-Standing.drop no
-    ∙ said k rows c.args.tag _ c.if-tag-lt2.false (omega (arith, c.extent.ensures, c.if-tag-extent.false)) (sym c.row-said.ensures ∙ c.in-Standing.is)
+    let s = c.in-Standing.spur in
+    let fits : fit k c.args.tag s ≡ true = search rules in
+    let up : stands (state_of k rows s.parent) ≡ true = search rules in
+    read_stands k c.args.tag (state_of k rows) s fits up
+    ∙ said k rows c.args.tag _ c.if-tag-lt2.false (omega (arith, c.extent.ensures, c.if-tag-extent.false)) (sym c.row.ensures ∙ c.in-Standing.is)
 
-pub returns-then-not-is_standing : goal.returns-then-not-is_standing
-returns-then-not-is_standing g t c =
+pub returns-else-fits : goal.returns-else-fits
+returns-else-fits g t c =
     let k = g.R.Kind.Length.figures in
     let rows = g.R.Rows.rows c.args.rows.now in
-    let p = c.in-Standing.parent in
-    let no : stands (state_of k rows p) ≡ false = search rules in
-    read_fallen k c.args.tag (state_of k rows) p c.in-Standing.run' c.in-Standing.drop no
-    ∙ said k rows c.args.tag _ c.if-tag-lt2.false (omega (arith, c.extent.ensures, c.if-tag-extent.false)) (sym c.row-said.ensures ∙ c.in-Standing.is)
-
-pub returns-else-not-is_standing : goal.returns-else-not-is_standing
-returns-else-not-is_standing g t c =
-    let k = g.R.Kind.Length.figures in
-    let rows = g.R.Rows.rows c.args.rows.now in
-    let p = c.in-Standing.parent in
-    let fits : fit k c.args.tag p c.in-Standing.run' c.in-Standing.drop ≡ true = search rules in
-    let up : stands (state_of k rows p) ≡ true = search rules in
-    read_stands k c.args.tag (state_of k rows) p c.in-Standing.run' c.in-Standing.drop fits up
-    ∙ said k rows c.args.tag _ c.if-tag-lt2.false (omega (arith, c.extent.ensures, c.if-tag-extent.false)) (sym c.row-said.ensures ∙ c.in-Standing.is)
+    let s = c.in-Standing.spur in
+    let here = said k rows c.args.tag _ c.if-tag-lt2.false (omega (arith, c.extent.ensures, c.if-tag-extent.false)) (sym c.row.ensures ∙ c.in-Standing.is) in
+    elim c.else-fits.branch [
+      | else-fits-via-then-fits+else-is_standing w ↦ let fallen : stands (state_of k rows s.parent) ≡ false = search rules in read_fallen k c.args.tag (state_of k rows) s fallen ∙ here
+      | else-fits-via-else-fits w ↦ let unfit : fit k c.args.tag s ≡ false = search rules in read_unfit k c.args.tag (state_of k rows) s unfit ∙ here
+    ]

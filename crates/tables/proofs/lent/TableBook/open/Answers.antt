@@ -1,5 +1,5 @@
 use Rattle.std.proofs.Common.{ℕ, ◌+◌, min, refl, ap}
-use Rattle.tables.proofs.Blanks.{blank_new}
+use Rattle.rows.proofs.Blanks.{blank_new}
 use Rattle.tables.proofs.lent.TableBook.open.Goals as goal
 
 pub returns : goal.returns

@@ -1,6 +1,5 @@
-use Rattle.std.proofs.Common.{refl, rules}
-use Rattle.tables.proofs.Changes.{lawful_rows}
+use Rattle.rows.proofs.Changes.{lawful_rows}
 use Rattle.tables.proofs.table.TableBookBook.size.Goals as goal
 
-pub returns : goal.returns
-returns g c = record { answer = search rules; lawful = lawful_rows g.K.Length.figures c.args.self.now.rows.now; alone = (refl, refl) }
+pub returns-clause-lawful : goal.returns-clause-lawful
+returns-clause-lawful g c = lawful_rows g.K.Length.figures c.args.self.now.rows.now

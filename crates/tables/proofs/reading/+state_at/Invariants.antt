@@ -1,4 +1,0 @@
-use Rattle.tables.proofs.reading.+state_at.Given as goal
-
-abbrev pub decreases-state_at : goal.decreases-state_at
-decreases-state_at g l = l.tag
