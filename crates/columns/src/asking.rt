@@ -4,7 +4,7 @@ ghost use Rattle.books.specs.declared.edits.Edit.{Edit as AnEdit};
 ghost use Rattle.slips.specs.declared.rows.Values.{Values as TheValues};
 ghost use Rattle.columns.specs.Asked.{edit_of, edit_m, edit_c, unanswered};
 
-use books::{Answer, Edit, Entry};
+use books::{Edit, Entry, Spur};
 use lengths::{Couplings, FirstThen, Length, Millimetres, kind_c};
 use slips::{Letter, Row, Values};
 use std::alloc::{AllocError, Global};
@@ -24,13 +24,14 @@ fn edit_of<K: Length>(values: Values, run: K, drop: K) -> Edit<K>
     ensures { result ≡ edit_of values run drop }
 {
     let tag = values.tag;
-    let parent = values.parent;
     match values.letter {
         Letter::Growth => Edit::Growth {
             tag,
-            parent,
-            run,
-            drop,
+            spur: Spur {
+                parent: values.parent,
+                run,
+                drop,
+            },
         },
         Letter::Strike => Edit::Strike { tag },
     }
@@ -67,7 +68,7 @@ pub(crate) fn waiting<K: Asked>(heap: Global, rows: &[Row<'_>]) -> Result<Vec<En
     rows.iter()
         .map(|row| Entry {
             edit: K::edit(row.values),
-            answer: Answer::Waiting,
+            answer: None,
         })
         .collect(heap)
 }

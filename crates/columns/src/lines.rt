@@ -18,7 +18,7 @@ pub(crate) fn put_rows(
     ensures { OnOk result (string_bytes text.new ≡ string_bytes text.old ++ rows_text 2 in_m.now in_c.now) }
 {
     for (i, (m, c)) in in_m.iter().zip(in_c).enumerate() {
-        put_line(text, i + 2, &[m.answer.number(), c.answer.number()])?;
+        put_line(text, i + 2, &[m.number(), c.number()])?;
     }
     Ok(())
 }
