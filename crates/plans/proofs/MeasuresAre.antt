@@ -45,7 +45,7 @@ module _ {K : Type 0} {k : Figures K} {size : ℕ} {state : ℕ → State K} (la
   pub distance_from : (a b : ℕ) → Point state a → Point state b → Distance k state a b (distance (tree_of lawful) a b)
   distance_from a b s t =
       let (ps, (l, w)) = way_there lawful a b s t in
-      subst (λ (d : K). Distance k state a b d) (way_length lawful laws w) (ps, w)
+      rw (← way_length lawful laws w) (ps, w)
 
   -- the computed distance to a path is the distance to a nearest point of it
   pub nearest_from :
@@ -56,7 +56,7 @@ module _ {K : Type 0} {k : Figures K} {size : ℕ} {state : ℕ → State K} (la
       record {
         point = m;
         on = on_from lawful a b m s t on;
-        far = subst (λ (d : K). Distance k state p m d) far (distance_from p m u v);
+        far = rw (← far) (distance_from p m u v);
         least = λ w e h d.
             subst (AtMost k (nearest (tree_of lawful) p a b)) (sym (distance_is p w e d))
             (nearest_least laws (tree_of lawful) p a b w u s t (on_is lawful a b w h));
@@ -104,9 +104,9 @@ module _ {K : Type 0} {k : Figures K} {size : ℕ} {state : ℕ → State K} (la
   reach_is a b r s t h =
       let o = reach_from a b s t in
       same laws
-      (subst (λ (x : K). AtMost k x r) (sym o.reached)
+      (rw o.reached
       (h.most o.point o.parent o.run o.drop o.distance o.stands o.nearest))
-      (subst (λ (x : K). AtMost k x (path_reach (tree_of lawful) (drop_at k state) a b)) (sym h.reached)
+      (rw h.reached
       (o.most h.point h.parent h.run h.drop h.distance h.stands h.nearest))
 
   module _ (a b : ℕ) (s : Point state a) (t : Point state b) where

@@ -1,5 +1,5 @@
 -- One tag of the pass upwards.
-use Rattle.std.proofs.Common.{◌≡◌, ℕ, ◌+◌, ◌-◌, ◌<◌, ◌≤◌, Bool, true, false, ◌&&◌, ◌||◌, eqb, List, length, get_or, drop, sym, refl, ap, ◌∙◌, inl, inr, arith}
+use Rattle.std.proofs.Common.{◌≡◌, ℕ, ◌+◌, ◌-◌, ◌<◌, ◌≤◌, Bool, true, false, ◌&&◌, ◌||◌, eqb, List, length, get_or, drop, sym, refl, ◌∙◌, inl, inr, arith}
 use Rattle.std.proofs.lemmas.List.{get_or-set_same, get_or-set_other, length-set, drop-set-lt}
 use Rattle.std.proofs.lemmas.Bool.{cases_Bool, cases_eq, and_parts, not-true, or_parts}
 use Rattle.std.proofs.lemmas.Bool.Decides.{nat_tests}
@@ -100,8 +100,8 @@ module _ {K : Type 0} {k : Figures K} (laws : Laws k) (size : ℕ) (read : ℕ �
     λ t l h. refl,
     λ T a b given put t low less s.
         let e : t ≡ 1 = omega arith in
-        let here = ap (λ (n : ℕ). side T n a) e ∙ root_side T a given.first_stands in
-        let there = ap (λ (n : ℕ). side T n b) e ∙ root_side T b given.last_stands in
+        let here = rw (← e) at (root_side T a given.first_stands) in
+        let there = rw (← e) at (root_side T b given.last_stands) in
         put t low (omega (arith, T.to_high t s, given.high)) here there
         ∙ sym (near_common laws T t a b s given.first_stands given.last_stands here there),
   )
