@@ -1,8 +1,8 @@
 -- Going up from a tag, one parent at a time.
-use Rattle.std.proofs.Common.{◌≡◌, ℕ, zero, suc, ◌<◌, ◌≤◌, Bool, true, false, ◌&&◌, ◌||◌, eqb, ltb, List, length, get_or, set, replicate, refl, sym, ap, ◌∙◌, inl, inr, arith}
+use Rattle.std.proofs.Common.{◌≡◌, ℕ, zero, suc, ◌<◌, ◌≤◌, Bool, true, false, ◌&&◌, ◌||◌, eqb, ltb, List, length, get_or, set, replicate, refl, ◌∙◌, inl, inr, arith}
 use Rattle.std.proofs.lemmas.List.{length-set, get_or-replicate, get_or-set_same, get_or-set_other}
-use Rattle.std.proofs.Math.Bool.{or-true, or-false}
-use Rattle.std.proofs.lemmas.Bool.{cases_Bool, cases_eq, eq-eqb, ne_eqb, eqb-true, lt-ltb, ltb-true, or_cases, and_parts, and_right}
+use Rattle.std.proofs.Math.Bool.{and-false, or-true, or-false}
+use Rattle.std.proofs.lemmas.Bool.{cases_Bool, cases_eq, eq-eqb, ne_eqb, eqb-true, lt-ltb, ltb-true, or_cases, and_parts}
 use Rattle.trees.proofs.Trees.{side_by}
 use Rattle.trees.proofs.Sides.{side_none, enough}
 
@@ -26,11 +26,11 @@ module _ (P : ℕ → ℕ) (falls : (t : ℕ) → 1 ≤ t → t ≤ 256 → P t 
   side_up zero a b = absurd (omega arith)
   side_up (suc x) a b =
       let f = falls (suc x) a b in
-      ap (λ (s : Bool). eqb t (suc x) || s) (ap (λ (s : Bool). ltb t (suc x) && s) (enough P (λ n. n ≤ 256) lower t low x (P (suc x)) (P (suc x)) (omega arith) (omega arith) (omega arith))
-      ∙ elim (cases_Bool (side_by P (P (suc x)) t (P (suc x)))) [
-        | inl y ↦ ap (λ (s : Bool). s && side_by P (P (suc x)) t (P (suc x))) (lt-ltb t (suc x) (omega (arith, side_low (P (suc x)) (P (suc x)) (omega arith) y)))
-        | inr n ↦ and_right (ltb t (suc x)) _ n ∙ sym n
-      ])
+      let e = enough P (λ n. n ≤ 256) lower t low x (P (suc x)) (P (suc x)) (omega arith) (omega arith) (omega arith) in
+      elim (cases_Bool (side_by P (P (suc x)) t (P (suc x)))) [
+        | inl y ↦ rw (e, y, lt-ltb t (suc x) (omega (arith, side_low (P (suc x)) (P (suc x)) (omega arith) y)))
+        | inr n ↦ rw (e, n, and-false)
+      ]
 
 module _ (P : ℕ → ℕ) (from : ℕ) where
   -- on the climb to `at`, what is met from the tag `from` on was met, or is to be met from `at` on

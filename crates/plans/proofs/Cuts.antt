@@ -1,8 +1,8 @@
 -- What a step from a to c, towards the point b, does to the runs that part a from b: it takes away the run of the step.
-use Rattle.std.proofs.Common.{◌≡◌, ℕ, Bool, ◌||◌, eqb, sym, ap, ◌∙◌, subst, ap₂, inl, inr, arith}
+use Rattle.std.proofs.Common.{◌≡◌, ℕ, ◌||◌, eqb, sym, ◌∙◌, ap₂, inl, inr, arith}
 use Rattle.std.proofs.lemmas.Bool.{cases_eq, eq-eqb, ne_eqb}
 use Rattle.lengths.specs.Figures.{Figures, Laws}
-use Rattle.trees.proofs.Trees.{Tree, Stands, Joined, side, parted, distance, differ, Between}
+use Rattle.trees.proofs.Trees.{Tree, Stands, Joined, side, parted, distance, Between}
 use Rattle.trees.proofs.TwoSides.{differ_none, differ_of, stable, both_apart}
 use Rattle.trees.proofs.Runs.{joined_above}
 use Rattle.trees.proofs.Sides.{nested, known_by_sides}
@@ -25,10 +25,8 @@ module _
     -- the runs that part a from b are the run of the step and those that part c from b
     step_cuts : (f : ℕ) → Joined T f → parted T a b f ≡ (eqb e f || parted T c b f)
     step_cuts f d = elim (cases_eq e f) [
-      | inl g ↦ differ_of (side T f a) (side T f b) (subst (λ (u : ℕ). side T u a ≡ side T u b → ⊥) g here_parts)
-          ∙ sym (ap (λ (u : Bool). u || parted T c b f) (eq-eqb e f g))
-      | inr n ↦ ap (λ (u : Bool). differ u (side T f b)) (step_keeps T o f d (λ g. n (sym g)))
-          ∙ sym (ap (λ (u : Bool). u || parted T c b f) (ne_eqb e f n))
+      | inl g ↦ rw (eq-eqb e f g) (differ_of (side T f a) (side T f b) (rw g at here_parts))
+      | inr n ↦ rw (ne_eqb e f n, step_keeps T o f d (λ g. n (sym g)))
     ]
 
     -- the distance from a is the run of the step and the distance from c
@@ -36,20 +34,20 @@ module _
     step_distance laws =
         distance_by_cuts laws T a b (step_from T o) t
         ∙ same_selected laws T (parted T a b) (λ f. eqb e f || parted T c b f) step_cuts
-        ∙ one_besides laws T (parted T c b) e o.is_run (ap (λ (u : Bool). differ u (side T e b)) beyond ∙ differ_none (side T e b))
+        ∙ one_besides laws T (parted T c b) e o.is_run (rw beyond (differ_none (side T e b)))
         ∙ ap₂ k.sum o.same_run (sym (distance_by_cuts laws T c b (step_to T o) t))
 
     -- what is on the way from c is on the way from a
     pub between_before : (w : ℕ) → Between T w c b → Between T w a b
     between_before w h f d same = elim (cases_eq f e) [
-      | inl g ↦ absurd (here_parts (subst (λ (u : ℕ). side T u a ≡ side T u b) g same))
+      | inl g ↦ absurd (here_parts (rw g at same))
       | inr n ↦ let q = step_keeps T o f d n in h f d (sym q ∙ same) ∙ sym q
     ]
 
     -- what is on the way from a, on a's side of the run of the step, is a
     only_start : (w : ℕ) → Stands T w → Between T w a b → side T e w ≡ side T e a → w ≡ a
     only_start w s h near = known_by_sides T w a s (step_from T o) (λ f d. elim (cases_eq f e) [
-      | inl g ↦ subst (λ (u : ℕ). side T u w ≡ side T u a) (sym g) near
+      | inl g ↦ rw g near
       | inr n ↦ stable (side T f w) (side T f a) (λ apart. apart (sym (together f d n apart)))
     ])
       where
@@ -63,7 +61,6 @@ module _
     -- what is on the way from a and is not a is on the way from c
     pub between_after : (w : ℕ) → Stands T w → (w ≡ a → ⊥) → Between T w a b → Between T w c b
     between_after w s other h f d same = elim (cases_eq f e) [
-      | inl g ↦ subst (λ (u : ℕ). side T u w ≡ side T u c) (sym g)
-          (both_apart (side T e w) (side T e c) (side T e a) (λ near. other (only_start w s h near)) (λ p. step_parts T o (sym p)))
+      | inl g ↦ rw g (both_apart (side T e w) (side T e c) (side T e a) (λ near. other (only_start w s h near)) (λ p. step_parts T o (sym p)))
       | inr n ↦ let q = step_keeps T o f d n in h f d (q ∙ same) ∙ q
     ]

@@ -109,8 +109,8 @@ module _ {K : Type 0} {k : Figures K} (laws : Laws k) (size : ℕ) (read : ℕ �
         λ T a b given.
             let here = (was.2 T a b given).0 low in (
               λ more. added ∙ ap (k.sum (run_of k (read tag))) here ∙ met_beyond laws given tag low high is more,
-              λ t l h p q. ap (λ (m : List K). get_or m (t - 1) k.zero) (written ∙ ap (set memory (tag - 1)) here)
-                  ∙ met_memory laws given tag low high memory (omega (arith, was.0)) (was.2 T a b given).1 t l h p q,
+              λ t l h p q. rw (written, here)
+                  (met_memory laws given tag low high memory (omega (arith, was.0)) (was.2 T a b given).1 t l h p q),
             ),
       )
 
@@ -122,7 +122,7 @@ module _ {K : Type 0} {k : Figures K} (laws : Laws k) (size : ℕ) (read : ℕ �
         ap (drop size) written ∙ was.1,
         λ T a b given. (
           λ more. added ∙ (was.2 T a b given).0 low ∙ past_beyond laws given tag low high is,
-          λ t l h p q. ap (λ (m : List K). get_or m (t - 1) k.zero) written
-              ∙ past_memory laws given tag low high memory (omega (arith, was.0)) (was.2 T a b given).1 t l h p q is,
+          λ t l h p q. rw written
+              (past_memory laws given tag low high memory (omega (arith, was.0)) (was.2 T a b given).1 t l h p q is),
         ),
       )

@@ -29,7 +29,7 @@ module _ {K : Type 0} {k : Figures K} {size : ℕ} {state : ℕ → State K} (la
   looked : (tag : ℕ) (answer : Result (State K) Refused) (x : State K) → 1 ≤ tag → tag ≤ size
       → answer ≡ answered tag (state tag) (first_cause (look_causes size tag)) → x ≡ result_unwrap_or answer Blank → x ≡ state tag
   looked tag answer x low high is taken =
-      taken ∙ ap (λ (r : Result (State K) Refused). result_unwrap_or r Blank) is ∙ rw (le-ltb tag 1 low, le-ltb size tag high) refl
+      rw (taken, is, le-ltb tag 1 low, le-ltb size tag high)
 
   -- one tag more is read
   pub read_more : (before after : ℕ → State K) (tag : ℕ) (answer : Result (State K) Refused) (x : State K) → 1 ≤ tag → tag ≤ size

@@ -1,5 +1,5 @@
 -- The greatest of a figure of each point of a tree is the figure of a point; and reaches of paths of one point, and of turned paths.
-use Rattle.std.proofs.Common.{◌≡◌, ℕ, Bool, ◌&&◌, ◌⊎◌, sym, refl, ◌∙◌, subst, inl, inr, arith}
+use Rattle.std.proofs.Common.{◌≡◌, ℕ, Bool, ◌&&◌, ◌⊎◌, sym, refl, ◌∙◌, inl, inr, arith}
 use mathlib.Core.Bool.{beq}
 use Rattle.lengths.specs.Figures.{Figures, Laws, AtMost}
 use Rattle.lengths.specs.Order.{same}
@@ -21,7 +21,7 @@ module _ {F : Type 0} {k : Figures F} (laws : Laws k) (T : Tree k) where
   -- the greatest of a figure of each point is that of some point: the root stands, and no figure is below zero
   pub attained : (f : ℕ → F) → (y : ℕ) × Stands T y × (greatest T f T.high ≡ f y)
   attained f = elim found [
-    | inl z ↦ (1, T.root, z ∙ same laws (subst (λ (x : F). AtMost k (f 1) x) z top) (laws.least (f 1)))
+    | inl z ↦ (1, T.root, z ∙ same laws (rw z at top) (laws.least (f 1)))
     | inr h ↦ h
   ]
     where
@@ -39,7 +39,7 @@ module _ {F : Type 0} {k : Figures F} (laws : Laws k) (T : Tree k) where
       half : (f g : ℕ → F) → ((y : ℕ) → Stands T y → f y ≡ g y) → AtMost k (greatest T f T.high) (greatest T g T.high)
       half f g h =
           greatest_at_most laws T f (greatest T g T.high)
-          (λ y s. subst (λ (x : F). AtMost k x (greatest T g T.high)) (sym (h y s)) (greatest_from laws T g y s T.high (T.to_high y s)))
+          (λ y s. rw (h y s) (greatest_from laws T g y s T.high (T.to_high y s)))
           T.high
 
   -- the distance to a path of one point is the distance to this point

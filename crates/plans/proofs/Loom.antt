@@ -1,5 +1,5 @@
 -- The tree of the standing tags of a book.
-use Rattle.std.proofs.Common.{◌≡◌, ℕ, ◌+◌, ◌<◌, ◌≤◌, true, refl, ap, ◌∙◌, inl, inr, arith}
+use Rattle.std.proofs.Common.{◌≡◌, ℕ, ◌+◌, ◌<◌, ◌≤◌, true, refl, ap, inl, inr, arith}
 use Rattle.std.proofs.lemmas.Bool.{both_ways, cases_eq, cases_lt}
 use Rattle.lengths.specs.Figures.{Figures, Laws}
 use Rattle.books.specs.declared.states.State.{State}
@@ -25,7 +25,7 @@ module _ {K : Type 0} {k : Figures K} {size : ℕ} {state : ℕ → State K} (la
   -- the tag of a point is at least 1
   pub point_low : (t : ℕ) → Point state t → 1 ≤ t
   point_low t s = elim (cases_eq t 0) [
-    | inl e ↦ absurd (both_ways (stands (state t)) (ap (λ (u : ℕ). stands (state u)) e ∙ ap stands lawful.none) s)
+    | inl e ↦ absurd (both_ways (stands (state t)) (rw (e, lawful.none)) s)
     | inr n ↦ omega arith
   ]
 
@@ -60,6 +60,6 @@ module _ {K : Type 0} {k : Figures K} {size : ℕ} {state : ℕ → State K} (la
   -- the drop of every point is an entry
   pub drops : Laws k → Drops tree_of (drop_at k state)
   drops laws t s = elim (cases_eq t 1) [
-    | inl e ↦ ap (λ (u : ℕ). k.entry (drop_at k state u)) e ∙ ap (λ (u : State K). k.entry (drop_of k u)) lawful.root ∙ laws.zero_entry
+    | inl e ↦ rw (e, lawful.root) laws.zero_entry
     | inr n ↦ (tied_as t s n).drop_entry
   ]

@@ -1,6 +1,6 @@
 -- The measures of a path, said in words, are the ones that the tree of a book computes.
 use Rattle.std.proofs.Common.{◌≡◌, ℕ, zero, suc, true, sym, ap, ◌∙◌, subst, ap₂, add-one}
-use Rattle.std.proofs.lemmas.Bool.{cond-true, cond-false, cond_both, both_ways, false_from_ne_true}
+use Rattle.std.proofs.lemmas.Bool.{cond_both, both_ways, false_from_ne_true}
 use Rattle.lengths.specs.Figures.{Figures, Laws, AtMost}
 use Rattle.lengths.specs.Order.{same}
 use Rattle.books.specs.declared.states.State.{State}
@@ -45,7 +45,7 @@ module _ {K : Type 0} {k : Figures K} {size : ℕ} {state : ℕ → State K} (la
   pub distance_from : (a b : ℕ) → Point state a → Point state b → Distance k state a b (distance (tree_of lawful) a b)
   distance_from a b s t =
       let (ps, (l, w)) = way_there lawful a b s t in
-      subst (λ (d : K). Distance k state a b d) (way_length lawful laws w) (ps, w)
+      rw (← way_length lawful laws w) (ps, w)
 
   -- the computed distance to a path is the distance to a nearest point of it
   pub nearest_from :
@@ -56,7 +56,7 @@ module _ {K : Type 0} {k : Figures K} {size : ℕ} {state : ℕ → State K} (la
       record {
         point = m;
         on = on_from lawful a b m s t on;
-        far = subst (λ (d : K). Distance k state p m d) far (distance_from p m u v);
+        far = rw (← far) (distance_from p m u v);
         least = λ w e h d.
             subst (AtMost k (nearest (tree_of lawful) p a b)) (sym (distance_is p w e d))
             (nearest_least laws (tree_of lawful) p a b w u s t (on_is lawful a b w h));
@@ -86,8 +86,7 @@ module _ {K : Type 0} {k : Figures K} {size : ℕ} {state : ℕ → State K} (la
       record {
         most = λ p q run drop d e n.
             let v : stands (state p) ≡ true = ap stands e in
-            subst (λ (x : K). AtMost k x (path_reach (tree_of lawful) (drop_at k state) a b))
-            (sym (ap₂ k.sum (sym (ap (drop_of k) e)) (nearest_is a b p d s t v n))) (in_reach a b p v);
+            rw (nearest_is a b p d s t v n, ← ap (drop_of k) e) (in_reach a b p v);
         point = y;
         parent = (tree_of lawful).parent y;
         run = (tree_of lawful).run y;
@@ -104,31 +103,23 @@ module _ {K : Type 0} {k : Figures K} {size : ℕ} {state : ℕ → State K} (la
   reach_is a b r s t h =
       let o = reach_from a b s t in
       same laws
-      (subst (λ (x : K). AtMost k x r) (sym o.reached)
+      (rw o.reached
       (h.most o.point o.parent o.run o.drop o.distance o.stands o.nearest))
-      (subst (λ (x : K). AtMost k x (path_reach (tree_of lawful) (drop_at k state) a b)) (sym h.reached)
+      (rw h.reached
       (o.most h.point h.parent h.run h.drop h.distance h.stands h.nearest))
 
   module _ (a b : ℕ) (s : Point state a) (t : Point state b) where
     -- the total over the points with tags up to n is the computed sum
     pub total_is : {n : ℕ} {x : K} → Total k state a b n x → x ≡ sum_below (tree_of lawful) (to_path lawful a b) (suc n)
     unfolding sum_below
-    total_is none = sym (cond-false (stands (state 0)) (k.sum k.zero (to_path lawful a b 0)) k.zero (ap stands lawful.none))
-    total_is (point {n = n} {d = d} u near rest) =
-        let old = sum_below (tree_of lawful) (to_path lawful a b) (suc n) in
-        ap₂ k.sum (total_is rest) (nearest_is a b (suc n) d s t u near)
-        ∙ sym (cond-true (stands (state (suc n))) (k.sum old (to_path lawful a b (suc n))) old u)
-    total_is (other {n = n} off rest) =
-        let old = sum_below (tree_of lawful) (to_path lawful a b) (suc n) in
-        total_is rest
-        ∙ sym (cond-false (stands (state (suc n))) (k.sum old (to_path lawful a b (suc n))) old (false_from_ne_true (stands (state (suc n))) off))
+    total_is none = rw lawful.none
+    total_is (point {n = n} {d = d} u near rest) = rw u (ap₂ k.sum (total_is rest) (nearest_is a b (suc n) d s t u near))
+    total_is (other {n = n} off rest) = rw (false_from_ne_true (stands (state (suc n))) off) (total_is rest)
 
     -- the computed sum is the total over the points with tags up to n
     pub total_from : (n : ℕ) → Total k state a b n (sum_below (tree_of lawful) (to_path lawful a b) (suc n))
     unfolding sum_below
-    total_from zero =
-        subst (λ (x : K). Total k state a b zero x)
-        (sym (cond-false (stands (state 0)) (k.sum k.zero (to_path lawful a b 0)) k.zero (ap stands lawful.none))) none
+    total_from zero = rw lawful.none none
     total_from (suc n) =
         let old = sum_below (tree_of lawful) (to_path lawful a b) (suc n) in
         cond_both (stands (state (suc n))) (k.sum old (to_path lawful a b (suc n))) old (λ (x : K). Total k state a b (suc n) x)

@@ -3,7 +3,6 @@ use Rattle.std.proofs.Common.{◌≡◌, ℕ, ◌<◌, ◌≤◌, ◌⊎◌, sym
 use Rattle.std.proofs.lemmas.Bool.{cases_eq, cases_lt}
 use Rattle.lengths.specs.Figures.{Figures, Laws, AtMost}
 use Rattle.books.specs.declared.states.State.{State}
-use Rattle.books.specs.declared.states.State.TheVariants.{Standing}
 use Rattle.books.specs.States.{Lawful}
 use Rattle.trees.proofs.Trees.{distance, reach, path_reach, Center, Path_center}
 use Rattle.trees.proofs.Ways.{on_stands}
@@ -36,7 +35,7 @@ module _ {K : Type 0} {k : Figures K} {size : ℕ} {state : ℕ → State K} (la
   -- the computed reach of a point is its reach
   pub point_reach_from : (t : ℕ) → Point state t → Reach k state t t (reach_at lawful t)
   point_reach_from t s =
-      subst (λ (r : K). Reach k state t t r) (path_reach_one laws (tree_of lawful) (drop_at k state) t s) (reach_from laws lawful t t s s)
+      rw (← path_reach_one laws (tree_of lawful) (drop_at k state) t s) (reach_from laws lawful t t s s)
 
   -- the reach of a point is the computed one
   pub point_reach_is : (t : ℕ) (r : K) → Point state t → Reach k state t t r → r ≡ reach_at lawful t
@@ -48,7 +47,7 @@ module _ {K : Type 0} {k : Figures K} {size : ℕ} {state : ℕ → State K} (la
     where
       -- a point of the same reach as u is a center
       center_at : (t : ℕ) → Point state t → reach_at lawful t ≡ reach_at lawful u → Center (tree_of lawful) (drop_at k state) t
-      center_at t s e = (s, λ x h. subst (λ (r : K). AtMost k r (reach_at lawful x)) (sym e) (least x h))
+      center_at t s e = (s, λ x h. rw e (least x h))
 
       -- of two points of this reach the smaller is the parent of the greater
       parent_at :
@@ -63,7 +62,7 @@ module _ {K : Type 0} {k : Figures K} {size : ℕ} {state : ℕ → State K} (la
           let up = parent_at u v su sv l refl level in (
             (tree_of lawful).run v,
             upward (λ e. omega (arith, point_low lawful u su))
-                (subst (λ (p : ℕ). state v ≡ Standing p ((tree_of lawful).run v) (drop_at k state v)) up (state_as lawful v sv)),
+                (rw up at (state_as lawful v sv)),
           )
 
       -- a point of this reach from u to v is one of them
@@ -85,7 +84,7 @@ module _ {K : Type 0} {k : Figures K} {size : ℕ} {state : ℕ → State K} (la
         last_point = sv;
         together = elim (cases_eq u v) [ inl p ↦ inl p | inr n ↦ inr (omega arith, link (omega arith)) ];
         first_reach = point_reach_from u su;
-        last_reach = subst (λ (r : K). Reach k state v v r) level (point_reach_from v sv);
+        last_reach = rw (← level) (point_reach_from v sv);
         least = λ t s h g. subst (AtMost k (reach_at lawful u)) (sym (point_reach_is t s h g)) (least t h);
         all = λ t h g.
             let e = sym (point_reach_is t (reach_at lawful u) h g) in
@@ -131,7 +130,7 @@ module _ {K : Type 0} {k : Figures K} {size : ℕ} {state : ℕ → State K} (la
       best_turned a b sa sb h = elim (cases_lt b a) [
         | inl l ↦
             subst (AtMost k (sum_to lawful u v)) (sum_turn b a sb sa)
-            (best b a sb sa (omega arith) (subst (λ (d : K). AtMost k d limit) (distance_turn laws (tree_of lawful) a b sa sb) h)).0
+            (best b a sb sa (omega arith) (rw (distance_turn laws (tree_of lawful) a b sa sb) at h)).0
         | inr l ↦ (best a b sa sb (omega arith) h).0
       ]
 
@@ -147,9 +146,9 @@ module _ {K : Type 0} {k : Figures K} {size : ℕ} {state : ℕ → State K} (la
         total = all_from laws lawful u v su sv;
         least = λ a b l t sa sb far h g.
             subst (AtMost k (sum_to lawful u v)) (sym (all_is laws lawful a b sa sb t g))
-            (best_turned a b sa sb (subst (λ (d : K). AtMost k d limit) (distance_is laws lawful a b l far) h));
+            (best_turned a b sa sb (rw (distance_is laws lawful a b l far) at h));
         ties = λ a b l sa sb low far h g.
             let e = distance_is laws lawful a b l far in
-            subst (λ (d : K). Before k (distance (tree_of lawful) u v) u v d a b) (sym e)
-            ((best a b sa sb low (subst (λ (d : K). AtMost k d limit) e h)).1 (all_is laws lawful a b sa sb (sum_to lawful u v) g));
+            rw e
+            ((best a b sa sb low (rw e at h)).1 (all_is laws lawful a b sa sb (sum_to lawful u v) g));
       }

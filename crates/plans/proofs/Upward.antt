@@ -1,5 +1,5 @@
 -- One tag of the pass upwards.
-use Rattle.std.proofs.Common.{◌≡◌, ℕ, ◌+◌, ◌-◌, ◌<◌, ◌≤◌, Bool, true, false, ◌&&◌, ◌||◌, eqb, List, length, get_or, drop, sym, refl, ap, ◌∙◌, inl, inr, arith}
+use Rattle.std.proofs.Common.{◌≡◌, ℕ, ◌+◌, ◌-◌, ◌<◌, ◌≤◌, Bool, true, false, ◌&&◌, ◌||◌, eqb, List, length, get_or, drop, sym, refl, ◌∙◌, inl, inr, arith}
 use Rattle.std.proofs.lemmas.List.{get_or-set_same, get_or-set_other, length-set, drop-set-lt}
 use Rattle.std.proofs.lemmas.Bool.{cases_Bool, cases_eq, and_parts, not-true, or_parts}
 use Rattle.std.proofs.lemmas.Bool.Decides.{nat_tests}
@@ -65,22 +65,22 @@ module _
         ]
 
     -- after this tag, every point up to it has its distance
-    up_more : (first memory after : List K) → size ≤ length memory
-        → after ≡ up_to k memory (parent_of (read tag)) (get_or sides.first tag false) (get_or sides.last tag false) tag (run_of k (read tag))
+    up_more : (first memory : List K) → size ≤ length memory
         → ((t : ℕ) → tag ≤ t → t ≤ size → get_or memory (t - 1) k.zero ≡ get_or first (t - 1) k.zero)
         → Common T a b size first
         → ((t : ℕ) → 1 ≤ t → t < tag → Stands T t → get_or memory (t - 1) k.zero ≡ nearest T t a b)
-        → (t : ℕ) → 1 ≤ t → t < tag + 1 → Stands T t → get_or after (t - 1) k.zero ≡ nearest T t a b
-    up_more first memory after long written kept put done t l less s =
+        → (t : ℕ) → 1 ≤ t → t < tag + 1 → Stands T t
+        → get_or (up_to k memory (parent_of (read tag)) (get_or sides.first tag false) (get_or sides.last tag false) tag (run_of k (read tag))) (t - 1) k.zero ≡ nearest T t a b
+    up_more first memory long kept put done t l less s =
         let p = parent_of (read tag) in
         let o = get_or sides.first tag false in
         let w = get_or sides.last tag false in
         let run = run_of k (read tag) in
-        rw written (elim (cases_eq t tag) [
+        elim (cases_eq t tag) [
           | inl e ↦
               rw e (up_here (rw e at s) memory long (λ x y. kept tag (omega arith) (omega arith) ∙ put tag (omega arith) (omega arith) x y) done)
           | inr n ↦ up_other k memory p o w tag run (t - 1) (λ e. omega arith) ∙ done t l (omega arith) s
-        ])
+        ]
 
 module _ {K : Type 0} (k : Figures K) (size : ℕ) (read : ℕ → State K) (sides : Sides) (first : List K) where
   -- on the way up, from the memory that the pass downwards left to this one: the points before the tag n have their distances
@@ -100,8 +100,8 @@ module _ {K : Type 0} {k : Figures K} (laws : Laws k) (size : ℕ) (read : ℕ �
     λ t l h. refl,
     λ T a b given put t low less s.
         let e : t ≡ 1 = omega arith in
-        let here = ap (λ (n : ℕ). side T n a) e ∙ root_side T a given.first_stands in
-        let there = ap (λ (n : ℕ). side T n b) e ∙ root_side T b given.last_stands in
+        let here = rw (← e) at (root_side T a given.first_stands) in
+        let there = rw (← e) at (root_side T b given.last_stands) in
         put t low (omega (arith, T.to_high t s, given.high)) here there
         ∙ sym (near_common laws T t a b s given.first_stands given.last_stands here there),
   )
@@ -114,11 +114,12 @@ module _ {K : Type 0} {k : Figures K} (laws : Laws k) (size : ℕ) (read : ℕ �
       let p = parent_of (read tag) in
       let o = get_or sides.first tag false in
       let w = get_or sides.last tag false in
-      let run = run_of k (read tag) in (
-        ap length written ∙ up_long k memory p o w tag run ∙ was.0,
-        ap (drop size) written ∙ up_rest k memory p o w tag run size (omega arith) ∙ was.1,
-        λ t l h. ap (λ (m : List K). get_or m (t - 1) k.zero) written ∙ up_other k memory p o w tag run (t - 1) (λ e. omega arith) ∙ was.2 t (omega arith) h,
-        λ T a b given put. up_more laws given tag low high first memory after (omega (arith, was.0)) written was.2 put (was.3 T a b given put),
+      let run = run_of k (read tag) in
+      rw written (
+        up_long k memory p o w tag run ∙ was.0,
+        up_rest k memory p o w tag run size (omega arith) ∙ was.1,
+        λ t l h. up_other k memory p o w tag run (t - 1) (λ e. omega arith) ∙ was.2 t (omega arith) h,
+        λ T a b given put. up_more laws given tag low high first memory (omega (arith, was.0)) was.2 put (was.3 T a b given put),
       )
 
   -- past the size every point has its own

@@ -1,9 +1,9 @@
 -- There is at most one way between two points.
-use Rattle.std.proofs.Common.{◌≡◌, ℕ, ◌⊎◌, List, ◌∷◌, sym, refl, ap, ◌∙◌, subst, ap₂, inl, inr}
+use Rattle.std.proofs.Common.{◌≡◌, ℕ, ◌⊎◌, List, ◌∷◌, refl, ◌∙◌, ap₂, inl, inr}
 use Rattle.std.proofs.lemmas.Bool.{cases_eq}
 use Rattle.lengths.specs.Figures.{Figures}
 use Rattle.books.specs.declared.states.State.{State}
-use Rattle.books.specs.States.{stands, Lawful}
+use Rattle.books.specs.States.{Lawful}
 use Rattle.books.specs.Edits.{Among, here, there}
 use Rattle.trees.proofs.Trees.{Joined, side}
 use Rattle.plans.specs.Ways.{Point, Joined as Linked, Way, alone, onward}
@@ -29,9 +29,9 @@ module _ {K : Type 0} {k : Figures K} {state : ℕ → State K} {b : ℕ} where
 module _ {K : Type 0} {k : Figures K} {size : ℕ} {state : ℕ → State K} (lawful : Lawful k size state) {b : ℕ} where
   -- every point of a way stands
   pub way_stands : {a w : ℕ} {ps : List ℕ} {l : K} → Way k state b a ps l → Among w ps → Point state w
-  way_stands (alone p) (here e) = ap (λ (u : ℕ). stands (state u)) e ∙ p
+  way_stands (alone p) (here e) = rw e p
   way_stands (alone p) (there m) = elim m [ ]
-  way_stands (onward j n v) (here e) = ap (λ (u : ℕ). stands (state u)) e ∙ step_from (tree_of lawful) (over lawful j).1
+  way_stands (onward j n v) (here e) = rw e (step_from (tree_of lawful) (over lawful j).1)
   way_stands (onward j n v) (there m) = way_stands v m
 
   -- a way that does not come to the end x of the run e stays on one side of this run
@@ -44,7 +44,7 @@ module _ {K : Type 0} {k : Figures K} {size : ℕ} {state : ℕ → State K} (la
     where
       pass : (f : ℕ) → Over (tree_of lawful) a c run f → side (tree_of lawful) e a ≡ side (tree_of lawful) e c
       pass f o = elim (cases_eq e f) [
-        | inl g ↦ elim (step_meets (tree_of lawful) o (subst (λ (u : ℕ). (x ≡ u) ⊎ (x ≡ (tree_of lawful).parent u)) g end)) [
+        | inl g ↦ elim (step_meets (tree_of lawful) o (rw g at end)) [
           | inl q ↦ absurd (out (here q))
           | inr q ↦ absurd (out (there (way_start w q)))
         ]
@@ -63,9 +63,9 @@ module _ {K : Type 0} {k : Figures K} {size : ℕ} {state : ℕ → State K} (la
       Linked state u d s → (Among u qs → ⊥) → Way k state b d qs m → (c ≡ d) × (r ≡ s)
   next {d = d} {qs = qs} {s = s} e i n w j x v =
       let (f, o) = over lawful i in
-      let (g, q) = over lawful (subst (λ (y : ℕ). Linked state y d s) (sym e) j) in
+      let (g, q) = over lawful (rw (← e) at j) in
       let h =
-      same_step (tree_of lawful) o q (end_stands w) (way_beyond o n w) (way_beyond q (λ y. x (subst (λ (z : ℕ). Among z qs) e y)) v)
+      same_step (tree_of lawful) o q (end_stands w) (way_beyond o n w) (way_beyond q (λ y. x (rw e at y)) v)
       in
       (same_next (tree_of lawful) o q h, same_length (tree_of lawful) o q h)
 
@@ -73,8 +73,8 @@ module _ {K : Type 0} {k : Figures K} {size : ℕ} {state : ℕ → State K} (la
   once :
       {a d : ℕ} {ps qs : List ℕ} {l m : K} → a ≡ d → Way k state b a ps l → Way k state b d qs m → (ps ≡ qs) × (l ≡ m)
   once e (alone p) (alone q) = (refl, refl)
-  once e (alone p) (onward {ps = qs} i n w) = absurd (n (subst (λ (u : ℕ). Among u qs) e (way_end w)))
-  once e (onward {ps = ps} i n w) (alone q) = absurd (n (subst (λ (u : ℕ). Among u ps) (sym e) (way_end w)))
+  once e (alone p) (onward {ps = qs} i n w) = absurd (n (rw e at (way_end w)))
+  once e (onward {ps = ps} i n w) (alone q) = absurd (n (rw (← e) at (way_end w)))
   once e (onward i n w) (onward j x v) =
       let g = next e i n w j x v in
       let t = once g.0 w v in

@@ -97,7 +97,7 @@ module _ {K : Type 0} {k : Figures K} {size : ℕ} {state : ℕ → State K} (la
   root_ways : (y : ℕ) → Point state y → Some_way k state 1 y × Some_way k state y 1
   root_ways = by_parent (tree_of lawful) (λ y. Some_way k state 1 y × Some_way k state y 1) (λ y s up. elim (cases_eq y 1) [
     | inl e ↦
-        subst (λ (u : ℕ). Some_way k state 1 u × Some_way k state u 1) (sym e)
+        rw e
         ((1 ∷ [], (k.zero, alone (tree_of lawful).root)), (1 ∷ [], (k.zero, alone (tree_of lawful).root)))
     | inr n ↦
         let t = up (omega (arith, point_low lawful y s)) in

@@ -1,5 +1,5 @@
 -- Three points have a median.
-use Rattle.std.proofs.Common.{◌≡◌, ℕ, zero, suc, ◌+◌, ◌<◌, ◌≤◌, Bool, false, ◌⊎◌, sym, ◌∙◌, subst, inl, inr, arith}
+use Rattle.std.proofs.Common.{◌≡◌, ℕ, zero, suc, ◌+◌, ◌<◌, ◌≤◌, Bool, false, ◌⊎◌, sym, ◌∙◌, inl, inr, arith}
 use Rattle.std.proofs.lemmas.Bool.{cases_order, cases_eq}
 use Rattle.lengths.specs.Figures.{Figures}
 use Rattle.trees.proofs.Trees.{Tree, Stands, Joined, side, majority, Median}
@@ -65,9 +65,9 @@ module _ {F : Type 0} {k : Figures F} (T : Tree k) where
 
       go :
           (a ≡ b) ⊎ ((a < b) ⊎ (b < a)) → (b ≡ x) ⊎ ((b < x) ⊎ (x < b)) → (a ≡ x) ⊎ ((a < x) ⊎ (x < a)) → Found a b x
-      go (inl p) q r = subst (λ y. Found a y x) p (level a x s)
-      go (inr p) (inl q) r = subst (λ y. Found a b y) q (turn a b b (level b a t))
-      go (inr p) (inr q) (inl r) = subst (λ y. Found a b y) r (turn a b a (turn b a a (level a b s)))
+      go (inl p) q r = rw (← p) (level a x s)
+      go (inr p) (inl q) r = rw (← q) (turn a b b (level b a t))
+      go (inr p) (inr q) (inl r) = rw (← r) (turn a b a (turn b a a (level a b s)))
       go (inr (inl p)) (inr (inl q)) (inr r) = x_greatest (omega arith) q
       go (inr (inl p)) (inr (inr q)) (inr r) = b_greatest p q
       go (inr (inr p)) (inr q) (inr (inl r)) = x_greatest r (omega arith)
