@@ -22,7 +22,7 @@ module _ {K : Type 0} where
   parent_none : (s : State K) → stands s ≡ false → parent_of s ≡ 0
   parent_none Blank f = refl
   parent_none Struck f = refl
-  parent_none (Standing p r d) f = cc
+  parent_none (Standing s) f = cc
 
 module _ {K : Type 0} {k : Figures K} {size : ℕ} {state : ℕ → State K} (lawful : Lawful k size state) where
   -- a tag from 1 to the size is answered with its state

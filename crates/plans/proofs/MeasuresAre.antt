@@ -12,7 +12,7 @@ use Rattle.trees.proofs.Reaches.{greatest_from}
 use Rattle.trees.proofs.Adds.{sum_below, sum_over}
 use Rattle.plans.specs.Ways.{Point}
 use Rattle.plans.specs.Measures.{On as Lies, Distance, Nearest, Reach, Total, none, point, other}
-use Rattle.plans.proofs.Loom.{tree_of, state_as}
+use Rattle.plans.proofs.Loom.{spur_of, tree_of, state_as}
 use Rattle.plans.specs.Drawn.{drop_of, drop_at}
 use Rattle.plans.proofs.WaysThere.{way_there, way_length, among_on, on_among}
 use Rattle.plans.proofs.Greatest.{attained}
@@ -84,13 +84,11 @@ module _ {K : Type 0} {k : Figures K} {size : ℕ} {state : ℕ → State K} (la
   reach_from a b s t =
       let (y, u, top) = attained laws (tree_of lawful) (drop_to lawful a b) in
       record {
-        most = λ p q run drop d e n.
+        most = λ p spur d e n.
             let v : stands (state p) ≡ true = ap stands e in
             rw (nearest_is a b p d s t v n, ← ap (drop_of k) e) (in_reach a b p v);
         point = y;
-        parent = (tree_of lawful).parent y;
-        run = (tree_of lawful).run y;
-        drop = drop_at k state y;
+        spur = spur_of k (state y);
         distance = nearest (tree_of lawful) y a b;
         stands = state_as lawful y u;
         nearest = nearest_from a b y s t u;
@@ -104,9 +102,9 @@ module _ {K : Type 0} {k : Figures K} {size : ℕ} {state : ℕ → State K} (la
       let o = reach_from a b s t in
       same laws
       (rw o.reached
-      (h.most o.point o.parent o.run o.drop o.distance o.stands o.nearest))
+      (h.most o.point o.spur o.distance o.stands o.nearest))
       (rw h.reached
-      (o.most h.point h.parent h.run h.drop h.distance h.stands h.nearest))
+      (o.most h.point h.spur h.distance h.stands h.nearest))
 
   module _ (a b : ℕ) (s : Point state a) (t : Point state b) where
     -- the total over the points with tags up to n is the computed sum

@@ -62,7 +62,7 @@ module _ {K : Type 0} {k : Figures K} {size : ℕ} {state : ℕ → State K} (la
           let up = parent_at u v su sv l refl level in (
             (tree_of lawful).run v,
             upward (λ e. omega (arith, point_low lawful u su))
-                (rw up at (state_as lawful v sv)),
+                (state_as lawful v sv) (sym up) refl,
           )
 
       -- a point of this reach from u to v is one of them

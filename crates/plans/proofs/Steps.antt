@@ -20,22 +20,22 @@ pub record Over {K : Type 0} {k : Figures K} (T : Tree k) (a c : ℕ) (run : K) 
 module _ {K : Type 0} {k : Figures K} {size : ℕ} {state : ℕ → State K} (lawful : Lawful k size state) where
   -- neighbours are joined by a run of the tree
   pub over : {a c : ℕ} {run : K} → Linked state a c run → (e : ℕ) × Over (tree_of lawful) a c run e
-  over {a} {c} {run} (upward n e) =
+  over {a} {c} {run} (upward n e p r) =
       let s : stands (state a) ≡ _ = ap stands e in (
         a,
         record {
           is_run = is_joined (tree_of lawful) s (omega (arith, point_low lawful a s));
-          same_run = ap (run_of k) e;
-          ends = inl (refl, sym (ap parent_of e));
+          same_run = ap (run_of k) e ∙ sym r;
+          ends = inl (refl, p ∙ sym (ap parent_of e));
         },
       )
-  over {a} {c} {run} (downward n e) =
+  over {a} {c} {run} (downward n e p r) =
       let s : stands (state c) ≡ _ = ap stands e in (
         c,
         record {
           is_run = is_joined (tree_of lawful) s (omega (arith, point_low lawful c s));
-          same_run = ap (run_of k) e;
-          ends = inr (refl, sym (ap parent_of e));
+          same_run = ap (run_of k) e ∙ sym r;
+          ends = inr (refl, p ∙ sym (ap parent_of e));
         },
       )
 

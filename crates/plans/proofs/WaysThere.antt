@@ -101,7 +101,7 @@ module _ {K : Type 0} {k : Figures K} {size : ℕ} {state : ℕ → State K} (la
         ((1 ∷ [], (k.zero, alone (tree_of lawful).root)), (1 ∷ [], (k.zero, alone (tree_of lawful).root)))
     | inr n ↦
         let t = up (omega (arith, point_low lawful y s)) in
-        (before (upward n (state_as lawful y s)) t.0, through t.1.1.1 (before (downward n (state_as lawful y s)) (y ∷ [], (k.zero, alone s))))
+        (before (upward n (state_as lawful y s) refl refl) t.0, through t.1.1.1 (before (downward n (state_as lawful y s) refl refl) (y ∷ [], (k.zero, alone s))))
   ])
 
   -- there is a way between any two points

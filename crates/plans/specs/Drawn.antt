@@ -11,19 +11,19 @@ module _ {K : Type 0} where
   abbrev pub parent_of : State K → ℕ
   parent_of Blank = 0
   parent_of Struck = 0
-  parent_of (Standing p r d) = p
+  parent_of (Standing s) = s.parent
 
   -- the run that a state gives; zero where it does not stand
   abbrev pub run_of : Figures K → State K → K
   run_of k Blank = k.zero
   run_of k Struck = k.zero
-  run_of k (Standing p r d) = r
+  run_of k (Standing s) = s.run
 
   -- the drop that a state gives; zero where it does not stand
   abbrev pub drop_of : Figures K → State K → K
   drop_of k Blank = k.zero
   drop_of k Struck = k.zero
-  drop_of k (Standing p r d) = d
+  drop_of k (Standing s) = s.drop
 
   -- the drop of a tag
   abbrev pub drop_at : Figures K → (ℕ → State K) → ℕ → K

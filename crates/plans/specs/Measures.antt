@@ -1,6 +1,7 @@
 -- Measures of paths. A path is the points on the way between two points, its ends; one point alone is a path.
 use Rattle.std.specs.Prelude.{◌≡◌, ℕ, zero, suc, List}
 use Rattle.lengths.specs.Figures.{Figures, AtMost}
+use Rattle.books.specs.declared.states.Spur.{Spur}
 use Rattle.books.specs.declared.states.State.{State}
 use Rattle.books.specs.declared.states.State.TheVariants.{Standing}
 use Rattle.books.specs.Edits.{Among}
@@ -24,15 +25,13 @@ pub record Nearest {K : Type 0} (k : Figures K) (state : ℕ → State K) (a b p
 -- r is the reach of the path (its weighted eccentricity): the greatest, over all points, of drop plus distance to the path. A
 -- point's own drop counts with it, and the drops of points on the way to it do not
 pub record Reach {K : Type 0} (k : Figures K) (state : ℕ → State K) (a b : ℕ) (r : K) : Type 0 where
-  pub most : (p q : ℕ) (run drop d : K) → state p ≡ Standing q run drop → Nearest k state a b p d → AtMost k (k.sum drop d) r
+  pub most : (p : ℕ) (s : Spur K) (d : K) → state p ≡ Standing s → Nearest k state a b p d → AtMost k (k.sum s.drop d) r
   pub point : ℕ
-  pub parent : ℕ
-  pub run : K
-  pub drop : K
+  pub spur : Spur K
   pub distance : K
-  pub stands : state point ≡ Standing parent run drop
+  pub stands : state point ≡ Standing spur
   pub nearest : Nearest k state a b point distance
-  pub reached : r ≡ k.sum drop distance
+  pub reached : r ≡ k.sum spur.drop distance
 
 -- `Total k state a b n s`: s is the total, over the points with tags from 1 to n, of the distance to the path with the ends a and
 -- b; each point counts once, and drops do not count

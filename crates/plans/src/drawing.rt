@@ -47,7 +47,7 @@ impl<K: Length> Drawing<K> {
         ensures { result ≡ parent_of (drawn self.now.states tag) }
     {
         match self.states.get(tag - 1) {
-            State::Standing { parent, .. } => parent as usize,
+            State::Standing(spur) => spur.parent as usize,
             State::Struck | State::Blank => 0,
         }
     }
@@ -58,7 +58,7 @@ impl<K: Length> Drawing<K> {
         ensures { result ≡ run_of K.figures (drawn self.now.states tag) }
     {
         match self.states.get(tag - 1) {
-            State::Standing { run, .. } => run,
+            State::Standing(spur) => spur.run,
             State::Struck | State::Blank => K::zero(),
         }
     }
@@ -69,7 +69,7 @@ impl<K: Length> Drawing<K> {
         ensures { result ≡ drop_of K.figures (drawn self.now.states tag) }
     {
         match self.states.get(tag - 1) {
-            State::Standing { drop, .. } => drop,
+            State::Standing(spur) => spur.drop,
             State::Struck | State::Blank => K::zero(),
         }
     }
