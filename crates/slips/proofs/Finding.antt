@@ -5,20 +5,8 @@ use Rattle.std.proofs.lemmas.List.Prefix.{front_rest}
 use Rattle.std.proofs.lemmas.List.{append_assoc, take_at, drop_at, drop-drop}
 use Rattle.slips.specs.declared.rows.Values.{Values}
 use Rattle.slips.specs.Format.{letter_byte, numbers, Proper, commaed, row_text, row_line, names_line}
-use Rattle.slips.specs.Layout.{Text, text, Part, laid}
+use Rattle.slips.specs.Layout.{Part, laid}
 use Rattle.slips.specs.Seen.{found, Answer, Handed, HandsOut, RowsAnswer, ends, faulty, row, Answers, too_long, no_names, first, later}
-use Rattle.slips.specs.Inner.{shifted}
-use Rattle.slips.proofs.Layouts.{laid_moved}
-
--- from the fields' places in the line to those in the slip
-pub row_found : (b l : ℕ) (v : Values) (line front : List ℕ) (ps ts : List Text) → line ≡ row_text v → front ≡ take 1 line
-    → ps ≡ laid 2 (map decimal (numbers v)) → ts ≡ map (shifted b) ps
-    → record { line = l; byte = b; fields = text front b ∷ ts; values = v } ≡ found b l v
-row_found b l v line front ps ts e f g h =
-    let letter : front ≡ letter_byte v.letter ∷ [] = f ∙ ap (take 1) e in
-    let rest : ts ≡ laid (b + 1 + 1) (map decimal (numbers v)) = h ∙ ap (map (shifted b)) g ∙ laid_moved b 2 (map decimal (numbers v)) ∙ ap (λ (k : ℕ). laid k (map decimal (numbers v))) (omega arith) in
-    ap (λ (x : List ℕ). record { line = l; byte = b; fields = text x b ∷ ts; values = v }) letter
-    ∙ ap (λ (us : List Text). record { line = l; byte = b; fields = text (letter_byte v.letter ∷ []) b ∷ us; values = v }) rest
 
 -- an error that was mapped, and what was so of it before
 pub mapped_err : {T E D : Type 0} (r : Result T E) (s : Result T D) (d : D) → s ≡ Err d → (P : T → Type 0) (Q : E → Type 0) (R : E → D → Type 0)

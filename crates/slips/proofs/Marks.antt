@@ -1,7 +1,7 @@
 -- Bytes cut at a mark, and how often a mark stands in them.
 use Rattle.std.proofs.Common.{◌≡◌, ◌≢◌, ℕ, ◌+◌, ◌-◌, ◌<◌, ◌≤◌, List, [], ◌∷◌, ◌++◌, length, get_or, take, drop, Some, None, Bool, cond, Option, MatchOption, sym, refl, ap, ◌∙◌, inl, inr, arith}
-use Rattle.std.specs.List.{between, AllByRecursion, AllWithin, HoldsAt}
-use Rattle.std.proofs.lemmas.List.{take-append-drop, drop_more, get_or-take, length-take, take_rest, length-append}
+use Rattle.std.specs.List.{AllByRecursion, AllWithin, HoldsAt}
+use Rattle.std.proofs.lemmas.List.{take-append-drop, drop_more, get_or-take, length-take, take_rest}
 use Rattle.std.proofs.lemmas.List.Sums.{sum_by-append, sum_by-cons}
 use Rattle.std.proofs.ByRecursion.{All-from_get_or, all_from_every}
 use Rattle.std.proofs.lemmas.Bool.{cases_eq, eq-eqb, ne_eqb}
@@ -13,6 +13,7 @@ pub cut_at : (m : ℕ) (xs : List ℕ) (i : ℕ) → i < length xs → get_or xs
 cut_at m xs i h e =
     sym (take-append-drop i xs) ∙ ap (λ (t : List ℕ). take i xs ++ t) (drop_more xs i 0 h ∙ ap (λ (x : ℕ). x ∷ drop (i + 1) xs) e)
 
+-- bytes cut at the first mark, which is at i
 pub cut_first : {m : ℕ} {i : ℕ} (xs : List ℕ) → (i < length xs) × HoldsAt (λ b. b ≡ m) xs i × AllWithin (λ b. b ≢ m) xs 0 i
     → (xs ≡ take i xs ++ m ∷ take (length xs - (i + 1)) (drop (i + 1) xs)) × Free m (take i xs)
 cut_first {m} {i} xs h = (
@@ -43,18 +44,6 @@ count_free m (x ∷ xs) h = count_other m x xs h.0 ∙ count_free m xs h.1
 pub count_cut : (m : ℕ) (xs front back : List ℕ) → xs ≡ front ++ m ∷ back → Free m front → count m xs ≡ count m back + 1
 count_cut m xs front back e h =
     ap (count m) e ∙ count_append m front (m ∷ back) ∙ omega (arith, count_free m front h, count_here m m back refl)
-
-pub length_cut : (m : ℕ) (xs front back : List ℕ) → xs ≡ front ++ m ∷ back → length xs ≡ length front + 1 + length back
-length_cut m xs front back e = ap length e ∙ length-append front (m ∷ back) ∙ omega arith
-
--- a slice with two bytes in front of its rest
-two_front : (xs : List ℕ) (a b : ℕ) → 2 ≤ length xs → get_or xs 0 0 ≡ a → get_or xs 1 0 ≡ b → xs ≡ a ∷ (b ∷ drop 2 xs)
-two_front [] a b h p q = absurd (omega arith)
-two_front (x ∷ []) a b h p q = absurd (omega arith)
-two_front (x ∷ (y ∷ xs)) a b h p q = ap (λ (z : ℕ). z ∷ (y ∷ xs)) p ∙ ap (λ (z : ℕ). a ∷ (z ∷ xs)) q
-
-pub two_rest : (xs : List ℕ) (a : ℕ) → 2 ≤ length xs → get_or xs 0 0 ≡ a → get_or xs 1 0 ≡ 44 → xs ≡ a ∷ (44 ∷ between 2 (length xs) xs)
-two_rest xs a h p q = two_front xs a 44 h p q ∙ ap (λ (t : List ℕ). a ∷ (44 ∷ t)) (sym (take_rest xs 2))
 
 pub free_from_count : (m : ℕ) (xs : List ℕ) → count m xs ≡ 0 → Free m xs
 free_from_count m [] h = tt

@@ -1,14 +1,12 @@
 -- Numbers put after one another, a comma before each, and the row of a letter and five numbers.
-use Rattle.std.proofs.Common.{◌≡◌, ℕ, ◌+◌, ◌<◌, ◌≤◌, List, [], ◌∷◌, ◌++◌, map, length, get_or, take, drop, decimal, sym, refl, ap, ◌∙◌, subst, append_assoc, arith}
+use Rattle.std.proofs.Common.{◌≡◌, ℕ, ◌+◌, ◌<◌, ◌≤◌, List, [], ◌∷◌, ◌++◌, map, length, get_or, take, decimal, sym, ap, ◌∙◌, append_assoc, arith}
 use Rattle.std.specs.List.{AllByRecursion}
 use Rattle.std.proofs.ByRecursion.{All-get_or}
 use Rattle.std.proofs.lemmas.List.{append-nil, take_more, map_push}
 use Rattle.std.proofs.lemmas.Fmt.{length-decimal-le}
 use Rattle.slips.specs.declared.rows.Letter.{Letter}
-use Rattle.slips.specs.declared.rows.Letter.TheVariants.{Strike}
 use Rattle.slips.specs.declared.rows.Values.{Values}
-use Rattle.slips.specs.Format.{most, letter_byte, numbers, Proper, commaed}
-use Rattle.slips.specs.Writing.{RowOf}
+use Rattle.slips.specs.Format.{most, commaed}
 
 -- numbers in decimal, with a comma before each
 abbrev pub fields_text : List ℕ → List ℕ
@@ -32,24 +30,3 @@ digits_few ns i h small =
 -- the row of a letter and five numbers
 unfoldable pub values_of : Letter → List ℕ → Values
 values_of l ns = record { letter = l; tag = get_or ns 0 0; parent = get_or ns 1 0; couplings = get_or ns 2 0; run = get_or ns 3 0; drop = get_or ns 4 0 }
-
-five_numbers : (l : Letter) (ns : List ℕ) → length ns ≡ 5 → ns ≡ numbers (values_of l ns)
-unfolding values_of
-five_numbers l [] h = absurd (omega arith)
-five_numbers l (a ∷ []) h = absurd (omega arith)
-five_numbers l (a ∷ (b ∷ [])) h = absurd (omega arith)
-five_numbers l (a ∷ (b ∷ (c ∷ []))) h = absurd (omega arith)
-five_numbers l (a ∷ (b ∷ (c ∷ (d ∷ [])))) h = absurd (omega arith)
-five_numbers l (a ∷ (b ∷ (c ∷ (d ∷ (e ∷ []))))) h = refl
-five_numbers l (a ∷ (b ∷ (c ∷ (d ∷ (e ∷ (f ∷ ns)))))) h = absurd (omega arith)
-
-module _ (l : Letter) (ns : List ℕ) (five : length ns ≡ 5) where
-  pub row_given : (c : ℕ) → c ≡ letter_byte l → RowOf c ns (values_of l ns)
-  unfolding values_of
-  row_given c e = record { letter = e; five = five_numbers l ns five }
-
-  pub row_proper : AllByRecursion (λ n. n ≤ most) ns → (l ≡ Strike → AllByRecursion (λ n. n ≡ 0) (drop 1 ns)) → Proper (values_of l ns)
-  unfolding values_of
-  row_proper small zero =
-      let P : List ℕ → Type 0 = λ ms. AllByRecursion (λ n. n ≤ most) ms × (l ≡ Strike → AllByRecursion (λ n. n ≡ 0) (drop 1 ms)) in
-      subst P (five_numbers l ns five) (small, zero)

@@ -11,6 +11,7 @@ ghost use Rattle.slips.specs.Layout.{laid, field_seen};
 ghost use Rattle.slips.specs.Seen.{row_seen, found};
 ghost use Rattle.slips.specs.Inner.{bytes_of, parts_seen, shifted, count};
 
+use crate::cursor::Reader;
 use crate::digits::number;
 use crate::faults::{Cause, Fault, RowFault};
 use crate::lines::{count_of, cut};
@@ -39,7 +40,7 @@ fn next_field<'a>(rest: Field<'a>) -> (Field<'a>, Field<'a>)
     ensures len { result.1.place + length result.1.bytes.now ≡ rest.entry.place + length rest.entry.bytes.now }
 {
     let Some((bytes, after)) = cut(rest.bytes, b',') else {
-        unreachable()
+        unreachable!()
     };
     let place = rest.place;
     let field = Field { bytes, place };
@@ -50,13 +51,21 @@ fn next_field<'a>(rest: Field<'a>) -> (Field<'a>, Field<'a>)
     (field, rest)
 }
 
-/// The five fields of `rest`, what follows the letter and its comma, with their places in the line.
-fn split(rest: &[u8]) -> [Field<'_>; 5]
+/// The five fields of a row after its letter, one after another, with their places in the line.
+#[derive(Clone, Copy)]
+pub(crate) struct Parts<'a> {
+    pub fields: [Field<'a>; 5],
+    // which the type of `fields` says too, but not where a proof of another function reads it
+    ghost five: { length fields ≡ 5 },
+    ghost laid: { parts_seen fields ≡ laid 2 (bytes_of fields) },
+}
+
+/// The five fields of `rest`, what follows the letter and its comma.
+fn split(rest: &[u8]) -> Parts<'_>
     requires commas { count 44 rest.now ≡ 4 }
     requires fits { 2 + length rest.now < 2 ^ 64 }
-    ensures text { 44 ∷ rest.now ≡ commaed (bytes_of result) }
-    ensures free { AllByRecursion (Free 44) (bytes_of result) }
-    ensures places { parts_seen result ≡ laid 2 (bytes_of result) }
+    ensures text { 44 ∷ rest.now ≡ commaed (bytes_of result.fields) }
+    ensures free { AllByRecursion (Free 44) (bytes_of result.fields) }
 {
     let rest = Field {
         bytes: rest,
@@ -66,7 +75,9 @@ fn split(rest: &[u8]) -> [Field<'_>; 5]
     let (parent, rest) = next_field(rest);
     let (couplings, rest) = next_field(rest);
     let (run, drop) = next_field(rest);
-    [tag, parent, couplings, run, drop]
+    Parts {
+        fields: [tag, parent, couplings, run, drop],
+    }
 }
 
 /// The number that the field `n` of a row writes.
@@ -87,44 +98,43 @@ pub(crate) fn nonzero_after_tag(numbers: &[u32]) -> Option<usize>
     Some(k + 1)
 }
 
-/// The numbers that the fields of a row after its letter write.
-fn numbers_of(parts: &[Field<'_>; 5]) -> Result<[u32; 5], RowFault>
-    requires { parts_seen parts.now ≡ laid 2 (bytes_of parts.now) }
-    ensures { MatchResult result (λ ns. AllByRecursion (λ n. n ≤ most) ns × (bytes_of parts.now ≡ map decimal ns)) (λ f. (l : ALetter) → NumberFault l (bytes_of parts.now) f) }
-{
-    let mut numbers = [0; 5];
-    for (k, field) in parts.iter().enumerate() {
-        numbers[k] = number_in(*field, k + 2)?;
-    }
-    Ok(numbers)
-}
-
-/// The values of a row with this letter and these fields. A strike with a number after the tag that is not 0 is refused.
-fn values_of(letter: Letter, parts: &[Field<'_>; 5]) -> Result<Values, RowFault>
-    requires { parts_seen parts.now ≡ laid 2 (bytes_of parts.now) }
-    ensures { MatchResult result (λ v. (v.letter ≡ letter) × Proper v × (bytes_of parts.now ≡ map decimal (numbers v))) (λ f. NumberFault letter (bytes_of parts.now) f) }
-{
-    let numbers = numbers_of(parts)?;
-    if let Letter::Strike = letter
-        && let Some(k) = nonzero_after_tag(&numbers)
+impl Parts<'_> {
+    /// The numbers that the fields write.
+    fn numbers(&self) -> Result<[u32; 5], RowFault>
+        ensures { MatchResult result (λ ns. AllByRecursion (λ n. n ≤ most) ns × (bytes_of self.now.fields ≡ map decimal ns)) (λ f. (l : ALetter) → NumberFault l (bytes_of self.now.fields) f) }
     {
-        return Err(Cause::NotZero.in_field(k + 2, parts[k].place));
+        let mut numbers = [0; 5];
+        for (k, field) in self.fields.iter().enumerate() {
+            numbers[k] = number_in(*field, k + 2)?;
+        }
+        Ok(numbers)
     }
-    Ok(Values::new(letter, numbers))
+
+    /// The values of a row with this letter and these fields. A strike with a number after the tag that is not 0 is refused.
+    fn values(&self, letter: Letter) -> Result<Values, RowFault>
+        ensures { MatchResult result (λ v. (v.letter ≡ letter) × Proper v × (bytes_of self.now.fields ≡ map decimal (numbers v))) (λ f. NumberFault letter (bytes_of self.now.fields) f) }
+    {
+        let numbers = self.numbers()?;
+        if let Letter::Strike = letter
+            && let Some(k) = nonzero_after_tag(&numbers)
+        {
+            return Err(Cause::NotZero.in_field(k + 2, self.fields[k].place));
+        }
+        Ok(Values::new(letter, numbers))
+    }
 }
 
 /// The five fields and the values of a row, from its line without the newline. Places are those in the line.
-fn read_row(line: &[u8]) -> Result<([Field<'_>; 5], Values), RowFault>
-    ensures value { MatchResult result (λ p. Proper p.1 × (line.now ≡ row_text p.1) × (parts_seen p.0 ≡ laid 2 (map decimal (numbers p.1)))) (λ f. LineFault line.now f) }
-    ensures within { MatchResult result (λ p. AllByRecursion (λ t. t.place ≤ length line.now) (parts_seen p.0)) (λ f. f.at ≤ length line.now) }
+fn read_row(line: &[u8]) -> Result<(Parts<'_>, Values), RowFault>
+    ensures value { MatchResult result (λ p. Proper p.1 × (line.now ≡ row_text p.1) × (bytes_of p.0.fields ≡ map decimal (numbers p.1))) (λ f. LineFault line.now f) }
+    ensures within { MatchResult result (λ p. AllByRecursion (λ t. t.place ≤ length line.now) (parts_seen p.0.fields)) (λ f. f.at ≤ length line.now) }
 {
-    let six = count_of(line, b',') == 5;
-    if !six {
+    if count_of(line, b',') != 5 {
         return Err(Cause::NotSixFields.in_field(0, 0));
     }
     let (letter, rest) = letter_of(line).map_err(|cause| cause.in_field(1, 0))?;
     let parts = split(rest);
-    let values = values_of(letter, &parts)?;
+    let values = parts.values(letter)?;
     Ok((parts, values))
 }
 
@@ -141,24 +151,27 @@ impl<'a> Field<'a> {
     }
 }
 
-/// The row of a line without its newline; the line has a number and begins at a byte of the slip.
-pub(crate) fn row_at<'a>(bytes: &'a [u8], line: usize, byte: usize) -> Result<Row<'a>, Fault>
-    requires { byte + length bytes.now < 2 ^ 64 }
-    ensures { MatchResult result (λ w. Proper w.values × (bytes.now ≡ row_text w.values) × (row_seen w ≡ found byte line w.values)) (λ f. (g : ARowFault) × LineFault bytes.now g × (f ≡ placed g line byte)) }
-{
-    let (parts, values) = read_row(bytes).map_err(|fault| fault.on_line(line, byte))?;
-    let [tag, parent, couplings, run, drop] = parts;
-    Ok(Row {
-        line,
-        letter: Field {
-            bytes: &bytes[0..1],
-            place: byte,
-        },
-        tag: tag.moved(byte),
-        parent: parent.moved(byte),
-        couplings: couplings.moved(byte),
-        run: run.moved(byte),
-        drop: drop.moved(byte),
-        values,
-    })
+impl<'a> Reader<'a> {
+    /// The row of the line that begins where the reader stands, from its bytes without the newline.
+    pub(crate) fn row_of(&self, bytes: &'a [u8]) -> Result<Row<'a>, Fault>
+        requires { self.now.byte + length bytes.now < 2 ^ 64 }
+        ensures { MatchResult result (λ w. Proper w.values × (bytes.now ≡ row_text w.values) × (row_seen w ≡ found self.now.byte self.now.line w.values)) (λ f. (g : ARowFault) × LineFault bytes.now g × (f ≡ placed g self.now.line self.now.byte)) }
+    {
+        let Reader { byte, line, .. } = *self;
+        let (parts, values) = read_row(bytes).map_err(|fault| fault.on_line(line, byte))?;
+        let [tag, parent, couplings, run, drop] = parts.fields;
+        Ok(Row {
+            line,
+            letter: Field {
+                bytes: &bytes[..1],
+                place: byte,
+            },
+            tag: tag.moved(byte),
+            parent: parent.moved(byte),
+            couplings: couplings.moved(byte),
+            run: run.moved(byte),
+            drop: drop.moved(byte),
+            values,
+        })
+    }
 }

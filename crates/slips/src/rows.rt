@@ -2,7 +2,7 @@
 ghost use Rattle.std.specs.Prelude.{◌≡◌, MatchResult, ◌≢◌};
 ghost use Rattle.slips.specs.declared.faults.Cause.TheVariants.{BadLetter};
 ghost use Rattle.slips.specs.declared.rows.Letter.{Letter as ALetter};
-ghost use Rattle.slips.specs.Format.{letter_byte, numbers, numbers as values_numbers};
+ghost use Rattle.slips.specs.Format.{letter_byte, numbers};
 
 use crate::faults::Cause;
 
@@ -68,11 +68,11 @@ impl From<Letter> for u8 {
 
 impl Values {
     /// The values of a letter and five numbers, in the order of the fields.
-    pub(crate) fn new(letter: Letter, numbers: [u32; 5]) -> Values
+    pub(crate) fn new(letter: Letter, five: [u32; 5]) -> Values
         ensures letter { result.letter ≡ letter }
-        ensures numbers { values_numbers result ≡ numbers }
+        ensures numbers { numbers result ≡ five }
     {
-        let [tag, parent, couplings, run, drop] = numbers;
+        let [tag, parent, couplings, run, drop] = five;
         Values {
             letter,
             tag,

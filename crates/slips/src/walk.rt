@@ -8,7 +8,6 @@ ghost use Rattle.slips.specs.Inner.{outcome, After};
 
 use crate::cursor::Reader;
 use crate::faults::{Cause, Fault};
-use crate::fields::row_at;
 use crate::lines::cut;
 use crate::rows::Row;
 
@@ -79,7 +78,7 @@ impl<'a> Reader<'a> {
         let Some((line, _)) = cut(&self.slip[self.byte..], b'\n') else {
             return Err(Fault::of_line(Cause::Unended, self.line, self.byte));
         };
-        let row = row_at(line, self.line, self.byte)?;
+        let row = self.row_of(line)?;
         let after = Reader {
             slip: self.slip,
             byte: self.byte + line.len() + 1,

@@ -1,23 +1,20 @@
-use Rattle.std.proofs.Common.{◌≡◌, ℕ, ◌≤◌, List, [], ◌∷◌, map, length, decimal, sym, ap, ◌∙◌, subst, arith, rules}
-use Rattle.std.specs.List.{AllByRecursion}
+use Rattle.std.proofs.Common.{◌≡◌, ◌+◌, ℕ, List, [], ◌∷◌, length, ap, ◌∙◌, arith, rules}
 use Rattle.std.proofs.lemmas.List.{length-map}
 use Rattle.std.proofs.lemmas.Result.{err_from_is_err_and}
 use Rattle.slips.specs.declared.faults.Cause.{Cause}
 use Rattle.slips.specs.declared.rows.Field.{Field}
-use Rattle.slips.specs.declared.rows.Letter.{Letter}
 use Rattle.slips.specs.Causes.{row_fault}
-use Rattle.slips.specs.Format.{letter_byte, commaed, numbers, row_text}
-use Rattle.slips.specs.Layout.{Text, laid}
+use Rattle.slips.specs.Format.{letter_byte}
 use Rattle.slips.specs.Rules.{SixFields, not_six_fields, bad_letter, at_number}
-use Rattle.slips.specs.Inner.{count, bytes_of, parts_seen}
+use Rattle.slips.specs.Inner.{count, bytes_of}
 use Rattle.slips.proofs.Faulty.{fault_within}
 use Rattle.slips.proofs.Finding.{mapped_err}
 use Rattle.slips.proofs.Layouts.{laid_within}
 use Rattle.slips.proofs.Single.{letter_apart, six_count, six_from_count, six_letter}
 use Rattle.slips.proofs.fields.read_row.Goals as goal
 
-pub returns-then-not-six-clause-value : goal.returns-then-not-six-clause-value
-returns-then-not-six-clause-value c =
+pub returns-then-count_of-ne5-clause-value : goal.returns-then-count_of-ne5-clause-value
+returns-then-count_of-ne5-clause-value c =
     let ne : count 44 c.args.line.now ≡ 5 → ⊥ = search rules in
     not_six_fields (λ e fs h. ne (six_count h)) c.in_field.ensures
 
@@ -36,29 +33,20 @@ returns-in_err-values c =
     let q = err_from_is_err_and c.from_residual-in_err-values.result c.from_residual-in_err-values.ensures.1 in
     let l = c.in_ok-letter.letter in
     let head : c.args.line.now ≡ letter_byte l ∷ (44 ∷ c.in_ok-letter.rest.now) = search rules in
-    let five : length c.split-parts.result ≡ 5 = search rules in
-    let h : SixFields c.args.line.now (letter_byte l ∷ []) (bytes_of c.split-parts.result) =
+    let h : SixFields c.args.line.now (letter_byte l ∷ []) (bytes_of c.split-parts.result.fields) =
     record {
       text = head ∙ ap (λ (t : List ℕ). letter_byte l ∷ t) c.split-parts.ensures.text;
-      five = length-map c.split-parts.result (λ (f : Field). f.bytes.now) ∙ five;
+      five = length-map c.split-parts.result.fields (λ (f : Field). f.bytes.now) ∙ c.split-parts.result.five;
       first_free = (letter_apart l 44 (omega arith), tt);
       free = c.split-parts.ensures.free;
     } in
     rw (q.1, q.2) (record {
-      value = at_number l (bytes_of c.split-parts.result) h c.in_err-values.ensures;
+      value = at_number l (bytes_of c.split-parts.result.fields) h c.in_err-values.ensures;
       within = fault_within c.args.line.now h c.in_err-values.ensures;
     })
 
-pub returns : goal.returns
-returns c =
-    let v = c.in_ok-values.values in
-    let e = c.in_ok-values.ensures in
-    let head : c.args.line.now ≡ letter_byte c.in_ok-letter.letter ∷ (44 ∷ c.in_ok-letter.rest.now) = search rules in
-    let whole : c.args.line.now ≡ row_text v = head
-    ∙ ap (λ (t : List ℕ). letter_byte c.in_ok-letter.letter ∷ t) (c.split-parts.ensures.text ∙ ap commaed e.2)
-    ∙ ap (λ (l : Letter). letter_byte l ∷ commaed (map decimal (numbers v))) (sym e.0) in
-    let places : parts_seen c.split-parts.result ≡ laid 2 (map decimal (numbers v)) = c.split-parts.ensures.places ∙ ap (laid 2) e.2 in
-    record {
-      value = (e.1, whole, places);
-      within = subst (λ (ts : List Text). AllByRecursion (λ t. t.place ≤ length c.args.line.now) ts) (sym places) (laid_within 2 (length c.args.line.now) (map decimal (numbers v)) (omega (arith, ap length whole)));
-    }
+pub returns-clause-within : goal.returns-clause-within
+returns-clause-within c =
+    let parts = c.split-parts.result in
+    let head : length c.args.line.now ≡ 2 + length c.in_ok-letter.rest.now = search rules in
+    rw parts.laid (laid_within 2 (length c.args.line.now) (bytes_of parts.fields) (omega (arith, head, ap length c.split-parts.ensures.text)))

@@ -1,16 +1,11 @@
-use Rattle.std.proofs.Common.{length, sym, refl}
+use Rattle.std.proofs.Common.{refl}
 use Rattle.std.proofs.lemmas.Slice.Eq.{slice_eq-Decides}
-use Rattle.std.proofs.lemmas.List.{nil_from_length}
-use Rattle.std.proofs.lemmas.Bool.{eqb-true, both_ways}
+use Rattle.std.proofs.lemmas.Bool.{both_ways}
 use Rattle.slips.specs.Format.{names}
-use Rattle.slips.specs.Rules.{no_byte, not_names}
+use Rattle.slips.specs.Rules.{not_names}
 use Rattle.slips.proofs.Answering.{names_split}
 use Rattle.slips.proofs.walk.check_names.Goals as goal
 use Rattle.std.proofs.lemmas.Bool.Decides.{Decides-eqb}
-
-pub returns-then-is_empty : goal.returns-then-is_empty
-returns-then-is_empty c =
-    no_byte (nil_from_length c.args.slip.now (eqb-true (length c.args.slip.now) 0 (sym c.if-is_empty.ensures))) refl
 
 pub returns-then-eq : goal.returns-then-eq
 unfolding names

@@ -1,7 +1,6 @@
-use Rattle.std.proofs.Common.{rules}
 use Rattle.std.proofs.lemmas.Result.{err_from_is_err_and}
 use Rattle.slips.proofs.Faulty.{strike_at}
-use Rattle.slips.proofs.fields.values_of.Goals as goal
+use Rattle.slips.proofs.fields.Parts.values.Goals as goal
 
 pub returns-in_err-numbers : goal.returns-in_err-numbers
 returns-in_err-numbers c =
@@ -11,4 +10,4 @@ returns-in_err-numbers c =
 pub returns : goal.returns
 returns c =
     let h = c.in_ok-numbers.ensures in
-    strike_at c.args.parts.now c.requires (search rules) c.in_ok-numbers.numbers c.in-Some.k _ c.in-Strike.is h.1 h.0 c.in-Some.ensures c.in_field.ensures
+    strike_at c.args.self.now c.in_ok-numbers.numbers c.in-Some.k _ c.in-Strike.is h.1 h.0 c.in-Some.ensures c.in_field.ensures
