@@ -10,8 +10,6 @@ pub returns-then-tag-eq1 : goal.returns-then-tag-eq1
 returns-then-tag-eq1 g t c =
     let k = g.R.Kind.Length.figures in
     let root = state_root k (g.R.Rows.rows c.args.rows.now) in
-    let zero = c.zero.ensures in
-    let zero' = c.zero-then-tag-eq1.ensures in
     let one = ap (state_of k (g.R.Rows.rows c.args.rows.now)) c.if-tag-eq1.true in
     cc
 
