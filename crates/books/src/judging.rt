@@ -16,10 +16,10 @@ pub fn growth_cause<K: Length>(
 ) -> Option<Refusal>
     ensures { result ≡ first_cause (growth_causes K.figures size at up tag spur.now) }
 {
-    if tag < 2 || tag > size {
+    if !(2..=size).contains(&tag) {
         return Some(Refusal::OutOfRange);
     }
-    if spur.parent == 0 || spur.parent >= tag {
+    if !(1..tag).contains(&spur.parent) {
         return Some(Refusal::BadParent);
     }
     if !K::zero().less(&spur.run) || !spur.run.is_entry() {
@@ -28,15 +28,12 @@ pub fn growth_cause<K: Length>(
     if !spur.drop.is_entry() {
         return Some(Refusal::BadDrop);
     }
-    match at {
-        State::Standing(_) => return Some(Refusal::TagStands),
-        State::Struck => return Some(Refusal::TagStruck),
-        State::Blank => {}
-    }
-    match up {
-        State::Blank => Some(Refusal::ParentBlank),
-        State::Struck => Some(Refusal::ParentStruck),
-        State::Standing(_) => None,
+    match (at, up) {
+        (State::Standing(_), _) => Some(Refusal::TagStands),
+        (State::Struck, _) => Some(Refusal::TagStruck),
+        (State::Blank, State::Blank) => Some(Refusal::ParentBlank),
+        (State::Blank, State::Struck) => Some(Refusal::ParentStruck),
+        (State::Blank, State::Standing(_)) => None,
     }
 }
 
@@ -44,7 +41,7 @@ pub fn growth_cause<K: Length>(
 pub fn strike_cause<K: Length>(size: u32, tag: u32, at: State<K>) -> Option<Refusal>
     ensures { result ≡ first_cause (strike_causes size at tag) }
 {
-    if tag < 2 || tag > size {
+    if !(2..=size).contains(&tag) {
         return Some(Refusal::OutOfRange);
     }
     match at {
@@ -58,10 +55,7 @@ pub fn strike_cause<K: Length>(size: u32, tag: u32, at: State<K>) -> Option<Refu
 pub fn look_cause(size: u32, tag: u32) -> Option<Refusal>
     ensures { result ≡ first_cause (look_causes size tag) }
 {
-    if tag < 1 || tag > size {
-        return Some(Refusal::OutOfRange);
-    }
-    None
+    (!(1..=size).contains(&tag)).then_some(Refusal::OutOfRange)
 }
 
 /// What a call answers: the cause against it, with its tag, or else `x`.

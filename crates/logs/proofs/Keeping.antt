@@ -14,6 +14,7 @@ use Rattle.books.specs.States.{left, Grown, StruckOut}
 use Rattle.books.proofs.Courses.{course_more}
 use Rattle.books.proofs.Steps.{standing_as}
 use Rattle.books.proofs.Tables.{MayGrow, MayStrike, may_grow, may_strike}
+use Rattle.logs.specs.declared.lent.LogBook.{LogBook}
 use Rattle.rows.specs.declared.row.Row.{Row}
 use Rattle.rows.specs.Rows as rows
 use Rattle.rows.specs.Rows.{row_of, row_at, state_of, Kept}
@@ -61,64 +62,74 @@ pub log_as : {K X : Type 0} (k : Figures K) (entries : List (Edit K)) (used : �
 log_as k entries used answer e =
     ap (λ rs. answer (rows.extent_of rs) (state_of k rs)) e ∙ ap (λ (n : ℕ). answer n (log_state k entries used)) (rows_extent entries used)
 
+pub log_verdict : {K : Type 0} (k : Figures K) (b : LogBook K) (e : Edit K) {rs : List (Row K)} → rs ≡ rows_of b.entries.now b.used
+    → verdict k (rows.extent_of rs) (state_of k rs) e ≡ verdict k (extent_of b.entries.now) (log_state k b.entries.now b.used) e
+log_verdict k b e same = log_as k b.entries.now b.used (λ n s. verdict k n s e) same
+
+-- what comes of an edit more that was accepted
+pub record Logged {K : Type 0} (k : Figures K) (entries : List (Edit K)) (used : ℕ) (e : Edit K) : Type 0 where
+  pub fits : used < length entries
+  pub kept : Kept (rows_of (set entries used e) (used + 1))
+  pub room : Roomy (set entries used e) (used + 1)
+  pub done : Done e (Ok tt) (log_state k entries used) (log_state k (set entries used e) (used + 1))
+  pub replays : Replays k entries used → Replays k (set entries used e) (used + 1)
+
 -- an accepted growth
-module _ {K : Type 0} (k : Figures K) (entries : List (Edit K)) (used tag : ℕ) (spur : Spur K) (kept : Kept (rows_of entries used)) (room : Roomy entries used)
-    (ok : Ok tt ≡ verdict k (extent_of entries) (log_state k entries used) (Growth tag spur)) where
-  grows : MayGrow k (extent_of entries) (log_state k entries used) tag spur
-  grows = may_grow k (extent_of entries) (log_state k entries used) tag spur ok
+module _ {K : Type 0} (k : Figures K) (b : LogBook K) (tag : ℕ) (spur : Spur K) {rs : List (Row K)} (same : rs ≡ rows_of b.entries.now b.used) (answer : Ok tt ≡ verdict k (rows.extent_of rs) (state_of k rs) (Growth tag spur)) where
+  may : MayGrow k (extent_of b.entries.now) (log_state k b.entries.now b.used) tag spur
+  may = may_grow k (extent_of b.entries.now) (log_state k b.entries.now b.used) tag spur (answer ∙ log_verdict k b (Growth tag spur) same)
 
-  row_grows : MayGrow k (rows.extent_of (rows_of entries used)) (log_state k entries used) tag spur
-  row_grows = subst (λ (n : ℕ). MayGrow k n (log_state k entries used) tag spur) (sym (rows_extent entries used)) grows
+  row_may : MayGrow k (rows.extent_of (rows_of b.entries.now b.used)) (log_state k b.entries.now b.used) tag spur
+  row_may = subst (λ (n : ℕ). MayGrow k n (log_state k b.entries.now b.used) tag spur) (sym (rows_extent b.entries.now b.used)) may
 
-  was_blank : row_at (rows_of entries used) (tag - 2) ≡ Blank
-  was_blank = tag_blank k (rows_of entries used) tag spur kept row_grows
+  was_blank : row_at (rows_of b.entries.now b.used) (tag - 2) ≡ Blank
+  was_blank = tag_blank k (rows_of b.entries.now b.used) tag spur b.kept row_may
 
-  pub growth_fits : used < length entries
-  growth_fits = fits entries used (Growth tag spur) grows.low grows.high room (omega (arith, ap left was_blank))
+  growth_fits : b.used < length b.entries.now
+  growth_fits = fits b.entries.now b.used (Growth tag spur) may.low may.high b.room (omega (arith, ap left was_blank))
 
-  growth_rows : rows_of (set entries used (Growth tag spur)) (used + 1) ≡ set (rows_of entries used) (tag - 2) (row_of (Standing spur))
-  growth_rows = rows_set entries used (Growth tag spur) grows.low grows.high room growth_fits
+  growth_rows : rows_of (set b.entries.now b.used (Growth tag spur)) (b.used + 1) ≡ set (rows_of b.entries.now b.used) (tag - 2) (row_of (Standing spur))
+  growth_rows = rows_set b.entries.now b.used (Growth tag spur) may.low may.high b.room growth_fits
 
-  pub growth_kept : Kept (rows_of (set entries used (Growth tag spur)) (used + 1))
-  growth_kept = subst Kept (sym growth_rows) (grown_sound k (rows_of entries used) tag spur kept row_grows)
+  growth_done : Grown (log_state k b.entries.now b.used) (log_state k (set b.entries.now b.used (Growth tag spur)) (b.used + 1)) tag (Standing spur)
+  growth_done = subst (λ (rs : List (Row K)). Grown (log_state k b.entries.now b.used) (state_of k rs) tag (Standing spur)) (sym growth_rows) (grown_rows k (rows_of b.entries.now b.used) tag spur b.kept row_may)
 
-  pub growth_room : Roomy (set entries used (Growth tag spur)) (used + 1)
-  growth_room = roomy_more entries used (Growth tag spur) grows.low grows.high room growth_fits (ap left was_blank)
-
-  pub growth_states : Grown (log_state k entries used) (log_state k (set entries used (Growth tag spur)) (used + 1)) tag (Standing spur)
-  growth_states = subst (λ (rs : List (Row K)). Grown (log_state k entries used) (state_of k rs) tag (Standing spur)) (sym growth_rows) (grown_rows k (rows_of entries used) tag spur kept row_grows)
-
-  pub growth_replays : Replays k entries used → Replays k (set entries used (Growth tag spur)) (used + 1)
-  growth_replays = replays_more entries used (Growth tag spur) growth_fits ok growth_states
+  pub growth_logged : Logged k b.entries.now b.used (Growth tag spur)
+  growth_logged = record {
+    fits = growth_fits;
+    kept = subst Kept (sym growth_rows) (grown_sound k (rows_of b.entries.now b.used) tag spur b.kept row_may);
+    room = roomy_more b.entries.now b.used (Growth tag spur) may.low may.high b.room growth_fits (ap left was_blank);
+    done = growth_done;
+    replays = replays_more b.entries.now b.used (Growth tag spur) growth_fits (answer ∙ log_verdict k b (Growth tag spur) same) growth_done;
+  }
 
 -- an accepted strike
-module _ {K : Type 0} (k : Figures K) (entries : List (Edit K)) (used tag : ℕ) (kept : Kept (rows_of entries used)) (room : Roomy entries used)
-    (ok : Ok tt ≡ verdict k (extent_of entries) (log_state k entries used) (Strike tag)) where
-  strikes : MayStrike (extent_of entries) (log_state k entries used) tag
-  strikes = may_strike k (extent_of entries) (log_state k entries used) tag ok
+module _ {K : Type 0} (k : Figures K) (b : LogBook K) (tag : ℕ) {rs : List (Row K)} (same : rs ≡ rows_of b.entries.now b.used) (answer : Ok tt ≡ verdict k (rows.extent_of rs) (state_of k rs) (Strike tag)) where
+  may_out : MayStrike (extent_of b.entries.now) (log_state k b.entries.now b.used) tag
+  may_out = may_strike k (extent_of b.entries.now) (log_state k b.entries.now b.used) tag (answer ∙ log_verdict k b (Strike tag) same)
 
-  row_strikes : MayStrike (rows.extent_of (rows_of entries used)) (log_state k entries used) tag
-  row_strikes = subst (λ (n : ℕ). MayStrike n (log_state k entries used) tag) (sym (rows_extent entries used)) strikes
+  row_may_out : MayStrike (rows.extent_of (rows_of b.entries.now b.used)) (log_state k b.entries.now b.used) tag
+  row_may_out = subst (λ (n : ℕ). MayStrike n (log_state k b.entries.now b.used) tag) (sym (rows_extent b.entries.now b.used)) may_out
 
-  was_standing : left (row_at (rows_of entries used) (tag - 2)) ≡ 1
+  was_standing : left (row_at (rows_of b.entries.now b.used) (tag - 2)) ≡ 1
   was_standing =
-      let a = standing_as (log_state k entries used tag) strikes.up in
-      ap left (stood k (rows_of entries used) tag a.0 (λ e. omega (arith, strikes.low)) a.1).row
+      let a = standing_as (log_state k b.entries.now b.used tag) may_out.up in
+      ap left (stood k (rows_of b.entries.now b.used) tag a.0 (λ e. omega (arith, may_out.low)) a.1).row
 
-  pub strike_fits : used < length entries
-  strike_fits = fits entries used (Strike tag) strikes.low strikes.high room (omega (arith, was_standing))
+  strike_fits : b.used < length b.entries.now
+  strike_fits = fits b.entries.now b.used (Strike tag) may_out.low may_out.high b.room (omega (arith, was_standing))
 
-  strike_rows : rows_of (set entries used (Strike tag)) (used + 1) ≡ set (rows_of entries used) (tag - 2) (row_of Struck)
-  strike_rows = rows_set entries used (Strike tag) strikes.low strikes.high room strike_fits
+  strike_rows : rows_of (set b.entries.now b.used (Strike tag)) (b.used + 1) ≡ set (rows_of b.entries.now b.used) (tag - 2) (row_of Struck)
+  strike_rows = rows_set b.entries.now b.used (Strike tag) may_out.low may_out.high b.room strike_fits
 
-  pub strike_kept : Kept (rows_of (set entries used (Strike tag)) (used + 1))
-  strike_kept = subst Kept (sym strike_rows) (struck_sound k (rows_of entries used) tag kept row_strikes)
+  strike_done : StruckOut (log_state k b.entries.now b.used) (log_state k (set b.entries.now b.used (Strike tag)) (b.used + 1)) tag
+  strike_done = subst (λ (rs : List (Row K)). StruckOut (log_state k b.entries.now b.used) (state_of k rs) tag) (sym strike_rows) (struck_rows k (rows_of b.entries.now b.used) tag b.kept row_may_out)
 
-  pub strike_room : Roomy (set entries used (Strike tag)) (used + 1)
-  strike_room = roomy_more entries used (Strike tag) strikes.low strikes.high room strike_fits was_standing
-
-  pub strike_states : StruckOut (log_state k entries used) (log_state k (set entries used (Strike tag)) (used + 1)) tag
-  strike_states = subst (λ (rs : List (Row K)). StruckOut (log_state k entries used) (state_of k rs) tag) (sym strike_rows) (struck_rows k (rows_of entries used) tag kept row_strikes)
-
-  pub strike_replays : Replays k entries used → Replays k (set entries used (Strike tag)) (used + 1)
-  strike_replays = replays_more entries used (Strike tag) strike_fits ok strike_states
+  pub strike_logged : Logged k b.entries.now b.used (Strike tag)
+  strike_logged = record {
+    fits = strike_fits;
+    kept = subst Kept (sym strike_rows) (struck_sound k (rows_of b.entries.now b.used) tag b.kept row_may_out);
+    room = roomy_more b.entries.now b.used (Strike tag) may_out.low may_out.high b.room strike_fits was_standing;
+    done = strike_done;
+    replays = replays_more b.entries.now b.used (Strike tag) strike_fits (answer ∙ log_verdict k b (Strike tag) same) strike_done;
+  }

@@ -9,7 +9,7 @@ use books::Edit;
 #[derive(Drop)]
 pub struct LogBook<'a, K> {
     pub(crate) entries: &'a mut [Edit<K>],
-    // how many entries hold an edit
+    // how many entries hold an edit: a length beside the entries, since a book keeps its edits in memory that is lent to it
     pub(crate) used: usize,
     // no row that the edits come to says that a tag stands on one whose row is blank
     ghost kept: { Kept (rows_of entries.now used) },

@@ -15,7 +15,7 @@ use rows::{Rows, size_for};
 pub(crate) struct Replayed<'e, K> {
     pub(crate) edits: &'e [Edit<K>],
     pub(crate) marks: [Option<usize>; 255],
-    // how many rows there are, so many of the marks
+    // how many rows there are, so many of the marks: an array with a length beside, since a book takes no memory from a heap
     pub(crate) count: usize,
     ghost within: { count ≤ 255 },
 }

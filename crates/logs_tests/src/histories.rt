@@ -6,11 +6,11 @@ use std::process::Abort;
 use tables::{Row, TableBook};
 use worked::worked_cases;
 
-/// The growth of a tag with no drop, or where the parent is 0 its strike.
-fn edit<K: Length>(tag: u32, parent: u32, run: K) -> Edit<K> {
-    if parent == 0 {
+/// The growth of a tag with no drop, or where there is no parent its strike.
+fn edit<K: Length>(tag: u32, parent: Option<u32>, run: K) -> Edit<K> {
+    let Some(parent) = parent else {
         return Edit::Strike { tag };
-    }
+    };
     let spur = Spur {
         parent,
         run,
@@ -25,19 +25,19 @@ fn number<B: Book>(book: &mut B, edit: Edit<B::Kind>) -> u8 {
     Entry { edit, answer }.number()
 }
 
-// tag and parent of edits on a new book of six tags, a strike where the parent is 0, each with its answer: a branch is struck
+// tag and parent of edits on a new book of six tags, a strike where there is no parent, each with its answer: a branch is struck
 // with all that hangs from it, and stays struck
-const HISTORY: [(u32, u32, u8); 10] = [
-    (2, 1, 0),
-    (4, 2, 0),
-    (5, 4, 0),
-    (3, 0, 9),
-    (2, 0, 0),
-    (4, 0, 6),
-    (4, 1, 6),
-    (6, 5, 8),
-    (3, 1, 0),
-    (1, 0, 1),
+const HISTORY: [(u32, Option<u32>, u8); 10] = [
+    (2, Some(1), 0),
+    (4, Some(2), 0),
+    (5, Some(4), 0),
+    (3, None, 9),
+    (2, None, 0),
+    (4, None, 6),
+    (4, Some(1), 6),
+    (6, Some(5), 8),
+    (3, Some(1), 0),
+    (1, None, 1),
 ];
 
 /// Whether a new book answers the history so.
@@ -80,7 +80,7 @@ fn worked_cases_come_out_in_a_log(rt: HostRuntime) {
 }
 
 /// An edit that has no answer yet, in kind M with a run of 5.
-fn waiting(tag: u32, parent: u32) -> Entry<KindM> {
+fn waiting(tag: u32, parent: Option<u32>) -> Entry<KindM> {
     Entry {
         edit: edit(tag, parent, Millimetres { value: 5 }),
         answer: None,
@@ -90,12 +90,12 @@ fn waiting(tag: u32, parent: u32) -> Entry<KindM> {
 #[test]
 fn a_list_of_edits_is_answered_one_after_another(rt: HostRuntime) {
     let mut noted = [
-        waiting(2, 1),
-        waiting(4, 2),
-        waiting(2, 0),
-        waiting(4, 0),
-        waiting(4, 1),
-        waiting(5, 4),
+        waiting(2, Some(1)),
+        waiting(4, Some(2)),
+        waiting(2, None),
+        waiting(4, None),
+        waiting(4, Some(1)),
+        waiting(5, Some(4)),
     ];
     let mut entries = [Edit::Strike { tag: 2 }; 8];
     let mut book = LogBook::open(&mut entries);

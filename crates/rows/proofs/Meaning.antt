@@ -1,5 +1,5 @@
 -- What the rows mean, as equations: the root, tags outside the table, and what a row says of its tag.
-use Rattle.std.proofs.Common.{◌≡◌, ℕ, zero, suc, ◌-◌, ◌<◌, ◌≤◌, true, false, cond, ◌&&◌, eqb, ltb, leb, List, sym, refl, ap, ◌∙◌, inl, inr, arith}
+use Rattle.std.proofs.Common.{◌≡◌, ℕ, zero, suc, ◌-◌, ◌<◌, ◌≤◌, true, false, cond, ◌&&◌, ◌⊎◌, eqb, ltb, leb, List, sym, refl, ap, ◌∙◌, inl, inr, arith}
 use Rattle.std.proofs.lemmas.Bool.{cases_Bool, and_parts, and_from, and_left, and_right, leb-true, ltb-true, le-leb, lt-leb, ne_eqb, cond-true, cond-false}
 use Rattle.lengths.specs.Figures.{Figures, Less}
 use Rattle.books.specs.declared.states.Spur.{Spur}
@@ -72,6 +72,10 @@ module _ {K : Type 0} (k : Figures K) (rows : List (Row K)) where
 
   pub state_low : (t : ℕ) → t < 2 → (t ≡ 1 → ⊥) → state_of k rows t ≡ Blank
   state_low t a n = ap (state_of k rows) (omega arith) ∙ state_none
+
+  -- outside the root and the rows every tag is blank
+  pub state_out : (t : ℕ) → (t ≡ 1 → ⊥) → (t < 2) ⊎ (extent_of rows < t) → state_of k rows t ≡ Blank
+  state_out t n out = elim out [ inl low ↦ state_low t low n | inr beyond ↦ state_beyond t beyond ]
 
 -- a row that says that its tag stands is believed, or not
 pub read_stands : {K : Type 0} (k : Figures K) (t : ℕ) (up : ℕ → State K) (s : Spur K) → fit k t s ≡ true → stands (up s.parent) ≡ true → Standing s ≡ read k t up (Standing s)

@@ -11,17 +11,14 @@ use lengths::Length;
 pub fn size_for(rows: usize) -> u32
     ensures { result ≡ 1 + min 255 rows }
 {
-    if rows < 255 { rows as u32 + 1 } else { 256 }
+    1 + rows.min(255) as u32
 }
 
 /// What the row at this index says, and blank past the last row.
 pub fn row_at<K: Copy>(rows: &[Row<K>], index: usize) -> State<K>
     ensures { result ≡ row_at rows.now index }
 {
-    if index >= rows.len() {
-        return State::Blank;
-    }
-    rows[index].state
+    rows.get(index).map_or(State::Blank, |row| row.state)
 }
 
 /// Whether a tag may stand by a spur, leaving aside whether the parent stands.
@@ -46,7 +43,7 @@ pub fn state_at<R: Rows>(rows: &R, tag: u32) -> State<R::Kind>
             drop: R::Kind::zero(),
         });
     }
-    if tag < 2 || tag > rows.extent() {
+    if !(2..=rows.extent()).contains(&tag) {
         return State::Blank;
     }
     match rows.row(tag as usize - 2) {
