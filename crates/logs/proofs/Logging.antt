@@ -1,8 +1,8 @@
 -- An edit more in a log: the rows it comes to, and that there is room for it.
-use Rattle.std.proofs.Common.{◌≡◌, ℕ, zero, suc, ◌+◌, ◌-◌, ◌/◌, ◌<◌, ◌≤◌, min, leb, List, [], ◌∷◌, ◌++◌, length, take, set, replicate, refl, ap, ◌∙◌, inl, inr, arith}
+use Rattle.std.proofs.Common.{◌≡◌, ℕ, zero, suc, ◌+◌, ◌-◌, ◌/◌, ◌<◌, ◌≤◌, min, leb, List, [], ◌∷◌, length, take, set, replicate, refl, ap, ◌∙◌, inl, inr, arith}
 use Rattle.std.proofs.lemmas.List.{length-set, length-replicate, take_more_set}
 use Rattle.std.proofs.lemmas.List.Folds.{sum_by-replicate}
-use Rattle.std.proofs.lemmas.List.Sums.{sum_by-set, get_or-le-sum_by}
+use Rattle.std.proofs.lemmas.List.Sums.{fold_push, sum_by-set, get_or-le-sum_by}
 use Rattle.std.proofs.lemmas.Bool.{cases_Bool, le-leb, cond-true, cond-false}
 use Rattle.books.specs.declared.edits.Edit.{Edit}
 use Rattle.books.specs.declared.states.State.TheVariants.{Blank}
@@ -22,10 +22,6 @@ one_length rs e = elim (cases_Bool (leb 2 (tag_of e))) [
 replay_length : {K : Type 0} (rs : List (Row K)) (es : List (Edit K)) → length (replay rs es) ≡ length rs
 replay_length rs [] = refl
 replay_length rs (e ∷ es) = replay_length (replay_one rs e) es ∙ one_length rs e
-
-pub replay_more : {K : Type 0} (rs : List (Row K)) (es : List (Edit K)) (e : Edit K) → replay rs (es ++ e ∷ []) ≡ replay_one (replay rs es) e
-replay_more rs [] e = refl
-replay_more rs (x ∷ es) e = replay_more (replay_one rs x) es e
 
 -- a log without edits: blank rows, and room for all
 pub empty_rows : {K : Type 0} (entries : List (Edit K)) (i : ℕ) → i < 255 → row_at (rows_of entries 0) i ≡ Blank
@@ -57,7 +53,7 @@ module _ {K : Type 0} (entries : List (Edit K)) (used : ℕ) where
       let same : extent_of (set entries used e) ≡ extent_of entries = ap (λ (n : ℕ). 1 + min 255 (n / 2)) (length-set entries used e) in
       ap (λ (n : ℕ). replay (replicate (n - 1) (row_of Blank)) (take (used + 1) (set entries used e))) same
       ∙ ap (replay (replicate (extent_of entries - 1) (row_of Blank))) (take_more_set entries used e h)
-      ∙ replay_more (replicate (extent_of entries - 1) (row_of Blank)) (take used entries) e
+      ∙ fold_push replay_one (replicate (extent_of entries - 1) (row_of Blank)) (take used entries) e
 
   module _ (e : Edit K) (low : 2 ≤ tag_of e) (high : tag_of e ≤ extent_of entries) (room : Roomy entries used) where
     row_within : tag_of e - 2 < length (rows_of entries used)
