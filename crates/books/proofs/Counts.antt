@@ -1,6 +1,7 @@
 -- How many edits a book accepts: each takes one from what is left of the tags.
 use Rattle.std.proofs.Common.{◌≡◌, ℕ, zero, suc, ◌+◌, ◌-◌, ◌*◌, ◌<◌, ◌≤◌, List, Some, Ok, Err, Result, refl, ap, ◌∙◌, inl, inr, arith}
 use Rattle.std.proofs.lemmas.Bool.{cases_Bool, cases_eq}
+use Rattle.std.proofs.lemmas.List.Sums.{sum_by-cons}
 use Rattle.lengths.specs.Figures.{Figures}
 use Rattle.books.specs.declared.causes.Refused.{Refused}
 use Rattle.books.specs.declared.edits.Edit.{Edit}
@@ -78,7 +79,7 @@ done_less k size s t (Strike tag) (Err f) v d = omega (arith, same_less {s = s} 
 
 pub course_less : {K : Type 0} {k : Figures K} {size : ℕ} {ns : List (Entry K)} {s t : ℕ → State K} → Course k size ns s t → accepted_in ns + lefts t (size - 1) ≤ lefts s (size - 1)
 course_less {K} {k} {size} {ns} {s} {t} (nothing same) = omega (arith, same_less {s = s} {t = t} (size - 1) same)
-course_less {K} {k} {size} {ns} {s} {t} (then {n = n} {t = u} v d c) = omega (arith, ap taken v, done_less k size s u n.edit _ refl d, course_less c)
+course_less {K} {k} {size} {ns} {s} {t} (then {n = n} {ns = rest} {t = u} v d c) = omega (arith, sum_by-cons (λ (m : Entry K). taken m.answer) n rest, ap taken v, done_less k size s u n.edit _ refl d, course_less c)
 
 pub course_few : {K : Type 0} {k : Figures K} {size : ℕ} {ns : List (Entry K)} {s t : ℕ → State K} → Course k size ns s t → accepted_in ns ≤ 2 * (size - 1)
 course_few {K} {k} {size} {ns} {s} {t} c = omega (arith, course_less c, lefts_most s (size - 1))

@@ -1,5 +1,5 @@
 -- What is among the elements of a list with one more at its end.
-use Rattle.std.proofs.Common.{◌≡◌, ◌<◌, ◌⊎◌, List, [], ◌∷◌, ◌++◌, length, inl, inr, arith}
+use Rattle.std.proofs.Common.{◌≡◌, ◌⊎◌, List, [], ◌∷◌, ◌++◌, inl, inr}
 use Rattle.books.specs.Edits.{Among, here, there}
 
 pub among_more : {A : Type 0} {x : A} {xs : List A} (y : A) → Among x xs → Among x (xs ++ y ∷ [])
@@ -15,7 +15,3 @@ among_cases [] y (here e) = inr e
 among_cases [] y (there h) = inl h
 among_cases (z ∷ xs) y (here e) = inl (here e)
 among_cases (z ∷ xs) y (there h) = elim (among_cases xs y h) [ inl m ↦ inl (there m) | inr e ↦ inr e ]
-
-pub among_some : {A : Type 0} {x : A} {xs : List A} → Among x xs → 0 < length xs
-among_some (here e) = omega arith
-among_some (there h) = omega arith

@@ -11,7 +11,6 @@ use Rattle.books.specs.declared.states.State.{State}
 use Rattle.books.specs.declared.states.State.TheVariants.{Blank, Struck, Standing}
 use Rattle.books.specs.Edits.{Among, Explains, Led, Answered, CalledFor, verdict}
 use Rattle.books.specs.States.{New}
-use Rattle.books.proofs.Members.{among_some}
 use Rattle.books.proofs.Steps.{not_blank}
 
 -- a list explains one meaning
@@ -73,4 +72,4 @@ led_new {K} {k} s new = record {
 }
   where
     nowhere : {x : Entry K} → Among x [] → ⊥
-    nowhere m = let h = among_some m in omega arith
+    nowhere m = elim m [ ]

@@ -1,5 +1,5 @@
 -- Lists of edits with their answers, and the states that they explain.
-use Rattle.std.specs.Prelude.{◌≡◌, ℕ, ◌+◌, ◌<◌, ◌≤◌, ◌⊎◌, List, [], ◌∷◌, ◌++◌, map, Option, Some, None, Ok, Err, Result, MatchResult, ◌≢◌}
+use Rattle.std.specs.Prelude.{◌≡◌, ℕ, ◌+◌, ◌<◌, ◌≤◌, ◌⊎◌, List, [], ◌∷◌, ◌++◌, map, Option, Some, None, Ok, Err, Result, MatchResult, ◌≢◌, sum_by}
 use Rattle.lengths.specs.Figures.{Figures}
 use Rattle.books.specs.declared.causes.Refused.{Refused}
 use Rattle.books.specs.declared.edits.Edit.{Edit}
@@ -103,8 +103,7 @@ taken (Some (Ok u)) = 1
 taken (Some (Err r)) = 0
 
 abbrev pub accepted_in : {K : Type 0} → List (Entry K) → ℕ
-accepted_in [] = 0
-accepted_in (n ∷ ns) = taken n.answer + accepted_in ns
+accepted_in ns = sum_by (λ n. taken n.answer) ns
 
 -- every answer is the one that the states before it call for
 abbrev pub Answered : {K : Type 0} → Figures K → ℕ → List (Entry K) → List (Entry K) → Type 0

@@ -1,6 +1,6 @@
 -- What a log keeps after an accepted edit.
-use Rattle.std.proofs.Common.{◌≡◌, ℕ, zero, suc, ◌+◌, ◌-◌, ◌/◌, ◌<◌, min, List, [], ◌∷◌, ◌++◌, map, length, take, drop, set, Some, Ok, Result, sym, refl, ap, ◌∙◌, subst, arith}
-use Rattle.std.proofs.lemmas.List.{length-set, map_push, take_more_set, take-set-le, drop-set-lt}
+use Rattle.std.proofs.Common.{◌≡◌, ℕ, ◌+◌, ◌-◌, ◌/◌, ◌<◌, min, List, [], ◌∷◌, ◌++◌, map, length, take, drop, set, Some, Ok, Result, sym, ap, ◌∙◌, subst, arith}
+use Rattle.std.proofs.lemmas.List.{length-set, map_push, take_more_set, take-set-le, drop-set-lt, drop-drop}
 use Rattle.lengths.specs.Figures.{Figures}
 use Rattle.books.specs.declared.causes.Refused.{Refused}
 use Rattle.books.specs.declared.edits.Edit.{Edit}
@@ -25,21 +25,13 @@ use Rattle.logs.proofs.Logging.{rows_extent, fits, rows_set, roomy_more}
 pub extent_set : {K : Type 0} (entries : List (Edit K)) (i : ℕ) (e : Edit K) → extent_of (set entries i e) ≡ extent_of entries
 extent_set entries i e = ap (λ (n : ℕ). 1 + min 255 (n / 2)) (length-set entries i e)
 
-drop_next : {A : Type 0} (n : ℕ) (xs : List A) → drop (suc n) xs ≡ drop 1 (drop n xs)
-drop_next zero xs = refl
-drop_next (suc n) [] = refl
-drop_next (suc n) (x ∷ xs) = drop_next n xs
-
 -- what was left alone is left alone by an edit more
 pub leaves_more : {K : Type 0} {first : List (Edit K)} {before : ℕ} (entries : List (Edit K)) (used : ℕ) (e : Edit K) → Leaves first before entries used → Leaves first before (set entries used e) (used + 1)
 leaves_more {K} {first} {before} entries used e l = record {
   longer = omega (arith, l.longer);
   kept = take-set-le before entries used e l.longer ∙ l.kept;
-  unused = drop-set-lt (used + 1) entries used e (omega arith) ∙ next entries ∙ ap (drop 1) l.unused ∙ sym (next first);
+  unused = drop-set-lt (used + 1) entries used e (omega arith) ∙ sym (drop-drop 1 used entries) ∙ ap (drop 1) l.unused ∙ drop-drop 1 used first;
 }
-  where
-    next : (xs : List (Edit K)) → drop (used + 1) xs ≡ drop 1 (drop used xs)
-    next xs = let on : used + 1 ≡ suc used = omega arith in ap (λ (n : ℕ). drop n xs) on ∙ drop_next used xs
 
 -- a log that replays goes on so
 pub replays_more : {K : Type 0} {k : Figures K} (entries : List (Edit K)) (used : ℕ) (e : Edit K) → used < length entries

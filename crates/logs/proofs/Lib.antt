@@ -1,4 +1,3 @@
-pub mod Rooms
 pub mod Logging
 pub mod Marks
 pub mod Keeping

@@ -1,6 +1,6 @@
 -- Marks that stand for rows.
 use Rattle.std.proofs.Common.{◌≡◌, ℕ, zero, suc, ◌+◌, ◌-◌, ◌<◌, ◌≤◌, leb, List, ◌∷◌, ◌++◌, Option, Some, None, length, get_or, take, set, replicate, sym, refl, ap, ◌∙◌, inl, inr, arith}
-use Rattle.std.proofs.lemmas.List.{map-set, get_or-map, take_all, take_more, take-append-le, take-replicate, length-replicate}
+use Rattle.std.proofs.lemmas.List.{map-set, get_or-map, take_all, take-append-le, take-replicate, length-replicate}
 use Rattle.std.proofs.lemmas.Bool.{cases_Bool, cond-true, cond-false}
 use Rattle.books.specs.declared.edits.Edit.{Edit}
 use Rattle.books.specs.declared.states.State.{State}
@@ -9,7 +9,7 @@ use Rattle.rows.specs.Rows.{row_of}
 use Rattle.books.specs.Edits.{tag_of, written}
 use Rattle.logs.specs.Logs.{replay_one, replay}
 use Rattle.logs.specs.Marks.{row_by, mark_one, rows_by}
-use Rattle.logs.proofs.Logging.{replay_more}
+use Rattle.std.proofs.lemmas.List.Sums.{fold_more}
 
 -- an edit that is marked is replayed
 marked : {K : Type 0} (edits : List (Edit K)) (marks : List (Option ℕ)) (i : ℕ) (d : Edit K) → i < length edits
@@ -29,7 +29,7 @@ pub marked_next : {K : Type 0} (edits : List (Edit K)) (marks all : List (Option
     → rows_by edits (mark_one marks (get_or edits i d) i) ≡ replay (rows_by edits all) (take (i + 1) edits)
 marked_next edits marks all i d h e =
     marked edits marks i d h ∙ ap (λ rs. replay_one rs (get_or edits i d)) e
-    ∙ sym (ap (replay (rows_by edits all)) (take_more edits i d h) ∙ replay_more (rows_by edits all) (take i edits) (get_or edits i d))
+    ∙ sym (fold_more replay_one (rows_by edits all) edits i d h)
 
 -- no marks are blank rows
 pub no_marks : {K : Type 0} (edits : List (Edit K)) (n : ℕ) → rows_by edits (replicate n None) ≡ replicate n (row_of Blank)

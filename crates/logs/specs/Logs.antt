@@ -1,5 +1,5 @@
 -- What the edits of a log come to.
-use Rattle.std.specs.Prelude.{◌≡◌, ℕ, ◌+◌, ◌-◌, ◌*◌, ◌/◌, ◌≤◌, min, cond, List, [], ◌∷◌, map, length, take, drop, replicate, nat_le, slice_set}
+use Rattle.std.specs.Prelude.{◌≡◌, ℕ, ◌+◌, ◌-◌, ◌*◌, ◌/◌, ◌≤◌, min, cond, List, map, length, take, drop, replicate, nat_le, slice_set, fold, sum_by}
 use Rattle.lengths.specs.Figures.{Figures}
 use Rattle.books.specs.declared.edits.Edit.{Edit}
 use Rattle.books.specs.declared.states.State.{State}
@@ -14,8 +14,7 @@ abbrev pub replay_one : {K : Type 0} → List (Row K) → Edit K → List (Row K
 replay_one rows e = cond (nat_le 2 (tag_of e)) (slice_set rows (tag_of e - 2) (row_of (written e))) rows
 
 abbrev pub replay : {K : Type 0} → List (Row K) → List (Edit K) → List (Row K)
-replay rows [] = rows
-replay rows (e ∷ es) = replay (replay_one rows e) es
+replay rows es = fold replay_one rows es
 
 -- the size: 1 plus the smaller of 255 and half the number of entries, rounded down
 abbrev pub extent_of : {K : Type 0} → List (Edit K) → ℕ
@@ -31,8 +30,7 @@ log_state k entries used = state_of k (rows_of entries used)
 
 -- how many edits may still be accepted of all tags, by their rows
 abbrev pub left_in : {K : Type 0} → List (Row K) → ℕ
-left_in [] = 0
-left_in (r ∷ rows) = left r.state + left_in rows
+left_in rows = sum_by (λ r. left r.state) rows
 
 -- there are entries for all edits that may still be accepted
 abbrev pub Roomy : {K : Type 0} → List (Edit K) → ℕ → Type 0
