@@ -1,3 +1,2 @@
 pub mod Blanks
 pub mod Changes
-pub mod Meaning
