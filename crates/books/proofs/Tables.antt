@@ -1,5 +1,5 @@
 -- What the tables of causes say where no cause holds.
-use Rattle.std.proofs.Common.{◌≡◌, ℕ, ◌<◌, ◌≤◌, Bool, true, false, not, eqb, ltb, leb, Some, None, Ok, Option, Result, refl, arith}
+use Rattle.std.proofs.Common.{◌≡◌, ℕ, ◌<◌, ◌≤◌, Bool, true, false, cond, not, eqb, ltb, leb, Some, None, Ok, Option, Result, refl, arith}
 use Rattle.std.proofs.lemmas.Bool.{ltb-false, leb-false, eqb-false, not-false, or_parts}
 use Rattle.lengths.specs.Figures.{Figures, Less}
 use Rattle.books.specs.declared.causes.Refusal.{Refusal}
@@ -8,12 +8,12 @@ use Rattle.books.specs.declared.edits.Edit.TheVariants.{Growth, Strike}
 use Rattle.books.specs.declared.states.Spur.{Spur}
 use Rattle.books.specs.declared.states.State.{State}
 use Rattle.books.specs.declared.states.State.TheVariants.{Blank, Struck, Standing}
-use Rattle.books.specs.Causes.{answered, pick}
+use Rattle.books.specs.Causes.{answered}
 use Rattle.books.specs.Edits.{verdict}
 use Rattle.books.specs.States.{is_blank, is_struck, stands}
 
 -- no cause holds: not the first, and none after it
-none_first : (b : Bool) (r : Refusal) (o : Option Refusal) → pick b r o ≡ None → (b ≡ false) × (o ≡ None)
+none_first : (b : Bool) (r : Refusal) (o : Option Refusal) → cond b (Some r) o ≡ None → (b ≡ false) × (o ≡ None)
 none_first true r o e = let z : ◌≡◌ {A = ℕ} 0 1 = cc in absurd (omega arith)
 none_first false r o e = (refl, e)
 

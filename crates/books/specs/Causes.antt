@@ -1,5 +1,5 @@
 -- The refusals of a book, with the numbers of docs/refusals.md, and the order in which each call checks.
-use Rattle.std.specs.Prelude.{ℕ, Bool, true, false, not, ◌||◌, List, [], ◌∷◌, Some, None, Ok, Err, Option, Result, ◌==◌, nat_le, nat_lt}
+use Rattle.std.specs.Prelude.{ℕ, Bool, true, false, cond, not, ◌||◌, List, [], ◌∷◌, Some, None, Ok, Err, Option, Result, ◌==◌, nat_le, nat_lt}
 use Rattle.lengths.specs.Figures.{Figures}
 use Rattle.books.specs.declared.causes.Refusal.{Refusal}
 use Rattle.books.specs.declared.causes.Refusal.TheVariants.{OutOfRange, BadParent, BadRun, BadDrop, TagStands, TagStruck, ParentBlank, ParentStruck, TagBlank}
@@ -24,15 +24,10 @@ refusal_number TagBlank = 9
 abbrev pub Table : Type 0
 Table = List (Bool × Refusal)
 
--- one cause, before the others: its refusal where it holds
-abbrev pub pick : Bool → Refusal → Option Refusal → Option Refusal
-pick true r o = Some r
-pick false r o = o
-
 -- the first cause of a table that holds
 abbrev pub first_cause : Table → Option Refusal
 first_cause [] = None
-first_cause (c ∷ cs) = pick c.0 c.1 (first_cause cs)
+first_cause (c ∷ cs) = cond c.0 (Some c.1) (first_cause cs)
 
 -- growth, where the tag has the state at and the parent the state up: the tag is below 2 or above the size; the parent is 0
 -- or not smaller than the tag; the run is zero or no entry; the drop is no entry; the tag stands; it is struck; the parent is

@@ -17,7 +17,7 @@ pub enum Refusal {
 }
 
 impl Refusal {
-    /// The number of this refusal in the table of refusals.
+    /// The number of this refusal in the table of refusals. (A name says which number it is, and `From` would not.)
     pub fn number(self) -> u8
         ensures { result ≡ refusal_number self }
     {

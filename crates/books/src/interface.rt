@@ -41,8 +41,8 @@ pub trait Book {
     fn look(&self, tag: u32) -> Result<State<Self::Kind>, Refused>
         ensures { result ≡ answered tag (state self.now tag) (first_cause (look_causes (extent self.now) tag)) };
 
-    /// Grows a tag: it stands by this spur. Refused, it changes no state, and keeps what the book says. (The spur is lent: by
-    /// value a struct of the kind's figures keeps a book's method from having these clauses.)
+    /// Grows a tag: it stands by this spur. Refused, it changes no state, and keeps what the book says. The spur is lent: a
+    /// method that takes a struct of figures by value has to repeat these clauses in every book.
     fn grow(&mut self, tag: u32, spur: &Spur<Self::Kind>) -> Result<(), Refused>
         ensures answer { result ≡ verdict Self.Kind.Length.figures (extent self.old) (state self.old) (Growth tag spur.now) }
         ensures size { extent self.new ≡ extent self.old }

@@ -20,6 +20,7 @@ replay rows es = fold replay_one rows es
 abbrev pub extent_of : {K : Type 0} → List (Edit K) → ℕ
 extent_of entries = 1 + min 255 (length entries / 2)
 
+-- (the entries and how many are used go apart here: what a log book is owed is said of them before there is a book)
 -- the rows that the first `used` entries come to, from blank rows for the tags from 2 to the size on
 unfoldable pub rows_of : {K : Type 0} → List (Edit K) → ℕ → List (Row K)
 rows_of entries used = replay (replicate (extent_of entries - 1) (row_of Blank)) (take used entries)
