@@ -16,6 +16,7 @@ pub use lines::put_line;
 fn put_rows(text: &mut String, rows: &[Row<'_>]) -> Result<(), AllocError>
     ensures { OnOk result (string_bytes text.new ≡ string_bytes text.old ++ flat_map (λ w. line_text w.line (0 ∷ [])) rows.now) }
 {
+    // no `try_for_each`: nothing is known of a text that a closure wrote to
     for row in rows {
         put_line(text, row.line, &[0])?;
     }

@@ -2,6 +2,7 @@
 ghost use Rattle.std.specs.Prelude.{◌+◌, ◌≤◌};
 
 /// A reader over a slip. It stands where the next line to read begins; at line 1 the names have not been read.
+// that the names have not been read is told by the line, which is 1 then and never again: no flag stands beside it
 #[derive(Clone, Copy)]
 pub struct Reader<'a> {
     pub(crate) slip: &'a [u8],

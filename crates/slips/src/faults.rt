@@ -59,6 +59,7 @@ impl RowFault {
 }
 
 /// A cause in a slip: the line, from 1, the field, and the byte of the slip where the field or the line begins.
+// that there is no field, or no line, is 0 by the rules: what is printed of a fault has the 0 too
 #[derive(Clone, Copy, PartialEq, Eq, Debug)]
 pub struct Fault {
     pub cause: Cause,
@@ -93,6 +94,7 @@ impl WriteFault {
     pub fn number(self) -> u8
         ensures { result ≡ write_number self }
     {
+        // no number can stand beside a variant that carries its cause
         match self {
             WriteFault::InField(cause, _) => cause.number(),
             WriteFault::ShortBuffer => 12,

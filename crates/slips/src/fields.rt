@@ -71,6 +71,7 @@ fn split(rest: &[u8]) -> Parts<'_>
         bytes: rest,
         place: 2,
     };
+    // the library's `split` gives the fields without their places
     let (tag, rest) = next_field(rest);
     let (parent, rest) = next_field(rest);
     let (couplings, rest) = next_field(rest);
@@ -104,6 +105,7 @@ impl Parts<'_> {
         ensures { MatchResult result (λ ns. AllByRecursion (λ n. n ≤ most) ns × (bytes_of self.now.fields ≡ map decimal ns)) (λ f. (l : ALetter) → NumberFault l (bytes_of self.now.fields) f) }
     {
         let mut numbers = [0; 5];
+        // `try_map` of an array says that some field was refused, and not that it was the first
         for (k, field) in self.fields.iter().enumerate() {
             numbers[k] = number_in(*field, k + 2)?;
         }

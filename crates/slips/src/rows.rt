@@ -32,6 +32,7 @@ pub struct Field<'a> {
 }
 
 /// A row of a slip: its line, from 1, its six fields, and its values.
+// the fields have names and not numbers: a caller asks for one of them, as it does of the values
 #[derive(Clone, Copy)]
 pub struct Row<'a> {
     pub line: usize,

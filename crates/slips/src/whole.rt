@@ -27,6 +27,7 @@ pub fn read_slip<'a>(heap: Global, slip: &'a [u8]) -> Result<Contents<'a>, Alloc
 {
     let mut reader = Reader::new(slip);
     let mut rows = Vec::new(heap);
+    // no `collect`: the rows before a fault are kept, and with them the fault
     let fault = loop {
         match reader.read() {
             Ok(Some(row)) => rows.push(row)?,
