@@ -73,11 +73,11 @@ module _ {K : Type 0} (k : Figures K) (b : LogBook K) (tag : ℕ) (spur : Spur K
   may : MayGrow k (extent_of b.entries.now) (log_state k b.entries.now b.used) tag spur
   may = may_grow k (extent_of b.entries.now) (log_state k b.entries.now b.used) tag spur (answer ∙ log_verdict k b (Growth tag spur) same)
 
-  row_may : MayGrow k (rows.extent_of (rows_of b.entries.now b.used)) (log_state k b.entries.now b.used) tag spur
-  row_may = subst (λ (n : ℕ). MayGrow k n (log_state k b.entries.now b.used) tag spur) (sym (rows_extent b.entries.now b.used)) may
+  row_ok : Ok tt ≡ verdict k (rows.extent_of (rows_of b.entries.now b.used)) (log_state k b.entries.now b.used) (Growth tag spur)
+  row_ok = subst (λ (xs : List (Row K)). Ok tt ≡ verdict k (rows.extent_of xs) (state_of k xs) (Growth tag spur)) same answer
 
   was_blank : row_at (rows_of b.entries.now b.used) (tag - 2) ≡ Blank
-  was_blank = tag_blank k (rows_of b.entries.now b.used) tag spur b.kept row_may
+  was_blank = tag_blank k (rows_of b.entries.now b.used) tag spur b.kept row_ok
 
   growth_fits : b.used < length b.entries.now
   growth_fits = fits b.entries.now b.used (Growth tag spur) may.low may.high b.room (omega (arith, ap left was_blank))
@@ -86,12 +86,12 @@ module _ {K : Type 0} (k : Figures K) (b : LogBook K) (tag : ℕ) (spur : Spur K
   growth_rows = rows_set b.entries.now b.used (Growth tag spur) may.low may.high b.room growth_fits
 
   growth_done : Grown (log_state k b.entries.now b.used) (log_state k (set b.entries.now b.used (Growth tag spur)) (b.used + 1)) tag (Standing spur)
-  growth_done = subst (λ (rs : List (Row K)). Grown (log_state k b.entries.now b.used) (state_of k rs) tag (Standing spur)) (sym growth_rows) (grown_rows k (rows_of b.entries.now b.used) tag spur b.kept row_may)
+  growth_done = subst (λ (rs : List (Row K)). Grown (log_state k b.entries.now b.used) (state_of k rs) tag (Standing spur)) (sym growth_rows) (grown_rows k (rows_of b.entries.now b.used) tag spur b.kept row_ok)
 
   pub growth_logged : Logged k b.entries.now b.used (Growth tag spur)
   growth_logged = record {
     fits = growth_fits;
-    kept = subst Kept (sym growth_rows) (grown_sound k (rows_of b.entries.now b.used) tag spur b.kept row_may);
+    kept = subst Kept (sym growth_rows) (grown_sound k (rows_of b.entries.now b.used) tag spur b.kept row_ok);
     room = roomy_more b.entries.now b.used (Growth tag spur) may.low may.high b.room growth_fits (ap left was_blank);
     done = growth_done;
     replays = replays_more b.entries.now b.used (Growth tag spur) growth_fits (answer ∙ log_verdict k b (Growth tag spur) same) growth_done;
@@ -102,8 +102,8 @@ module _ {K : Type 0} (k : Figures K) (b : LogBook K) (tag : ℕ) {rs : List (Ro
   may_out : MayStrike (extent_of b.entries.now) (log_state k b.entries.now b.used) tag
   may_out = may_strike k (extent_of b.entries.now) (log_state k b.entries.now b.used) tag (answer ∙ log_verdict k b (Strike tag) same)
 
-  row_may_out : MayStrike (rows.extent_of (rows_of b.entries.now b.used)) (log_state k b.entries.now b.used) tag
-  row_may_out = subst (λ (n : ℕ). MayStrike n (log_state k b.entries.now b.used) tag) (sym (rows_extent b.entries.now b.used)) may_out
+  row_ok_out : Ok tt ≡ verdict k (rows.extent_of (rows_of b.entries.now b.used)) (log_state k b.entries.now b.used) (Strike tag)
+  row_ok_out = subst (λ (xs : List (Row K)). Ok tt ≡ verdict k (rows.extent_of xs) (state_of k xs) (Strike tag)) same answer
 
   was_standing : left (row_at (rows_of b.entries.now b.used) (tag - 2)) ≡ 1
   was_standing =
@@ -117,12 +117,12 @@ module _ {K : Type 0} (k : Figures K) (b : LogBook K) (tag : ℕ) {rs : List (Ro
   strike_rows = rows_set b.entries.now b.used (Strike tag) may_out.low may_out.high b.room strike_fits
 
   strike_done : StruckOut (log_state k b.entries.now b.used) (log_state k (set b.entries.now b.used (Strike tag)) (b.used + 1)) tag
-  strike_done = subst (λ (rs : List (Row K)). StruckOut (log_state k b.entries.now b.used) (state_of k rs) tag) (sym strike_rows) (struck_rows k (rows_of b.entries.now b.used) tag b.kept row_may_out)
+  strike_done = subst (λ (rs : List (Row K)). StruckOut (log_state k b.entries.now b.used) (state_of k rs) tag) (sym strike_rows) (struck_rows k (rows_of b.entries.now b.used) tag b.kept row_ok_out)
 
   pub strike_logged : Logged k b.entries.now b.used (Strike tag)
   strike_logged = record {
     fits = strike_fits;
-    kept = subst Kept (sym strike_rows) (struck_sound k (rows_of b.entries.now b.used) tag b.kept row_may_out);
+    kept = subst Kept (sym strike_rows) (struck_sound k (rows_of b.entries.now b.used) tag b.kept row_ok_out);
     room = roomy_more b.entries.now b.used (Strike tag) may_out.low may_out.high b.room strike_fits was_standing;
     done = strike_done;
     replays = replays_more b.entries.now b.used (Strike tag) strike_fits (answer ∙ log_verdict k b (Strike tag) same) strike_done;

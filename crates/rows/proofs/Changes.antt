@@ -1,5 +1,5 @@
 -- What a row that is written changes: a growth, a strike; and that every table is lawful.
-use Rattle.std.proofs.Common.{◌≡◌, ℕ, zero, suc, ◌+◌, ◌-◌, ◌<◌, ◌≤◌, min, Bool, true, false, cond, not, ◌&&◌, ◌||◌, ltb, leb, List, length, set, sym, refl, ap, ◌∙◌, subst, inl, inr, arith}
+use Rattle.std.proofs.Common.{◌≡◌, ℕ, zero, suc, ◌+◌, ◌-◌, ◌<◌, ◌≤◌, min, Bool, true, false, cond, not, ◌&&◌, ◌||◌, ltb, leb, List, length, set, Ok, sym, refl, ap, ◌∙◌, subst, inl, inr, arith}
 use Rattle.std.proofs.lemmas.List.{length-set, get_or-set_same, get_or-set_other}
 use Rattle.std.proofs.lemmas.Bool.{cases_Bool, cases_eq, cases_lt, and_left, cond-true, cond-false, both_ways, or_cases, ltb-true, le-leb, lt-ltb, and_from, or_left, or_right}
 use Rattle.lengths.specs.Figures.{Figures}
@@ -8,7 +8,9 @@ use Rattle.books.specs.declared.states.State.{State}
 use Rattle.books.specs.declared.states.State.TheVariants.{Blank, Struck, Standing}
 use Rattle.books.specs.States as states
 use Rattle.books.specs.States.{is_blank, stands, root_spur, Tied, Lawful, Hangs, Grown, StruckOut}
-use Rattle.books.proofs.Tables.{MayGrow, MayStrike}
+use Rattle.books.specs.declared.edits.Edit.TheVariants.{Growth, Strike}
+use Rattle.books.specs.Edits.{verdict}
+use Rattle.books.proofs.Tables.{MayGrow, MayStrike, may_grow, may_strike}
 use Rattle.rows.specs.declared.row.Row.{Row}
 use Rattle.rows.specs.Rows.{row_of, row_at, extent_of, fit, read, state_of, sound, Kept}
 use Rattle.rows.specs.Lawful.{stood}
@@ -57,9 +59,16 @@ not_blank_sound {K} rows x s e h low b =
     ]
 
 -- a growth
-module _ {K : Type 0} (k : Figures K) (rows : List (Row K)) (tag : ℕ) (spur : Spur K) (kept : Kept rows) (may : MayGrow k (extent_of rows) (state_of k rows) tag spur) where
+module _ {K : Type 0} (k : Figures K) (rows : List (Row K)) (tag : ℕ) (spur : Spur K) (kept : Kept rows) (ok : Ok tt ≡ verdict k (extent_of rows) (state_of k rows) (Growth tag spur)) where
+  may : MayGrow k (extent_of rows) (state_of k rows) tag spur
+  may = may_grow k (extent_of rows) (state_of k rows) tag spur ok
+
   within : tag - 2 < length rows
   within = omega (arith, may.low, may.high)
+
+  -- the row written is one that is used
+  pub written_used : tag - 2 < 255
+  written_used = omega (arith, may.low, may.high)
 
   grown : List (Row K)
   grown = set rows (tag - 2) (row_of (Standing spur))
@@ -130,9 +139,15 @@ module _ {K : Type 0} (k : Figures K) (rows : List (Row K)) (tag : ℕ) (spur : 
       ]
 
 -- a strike
-module _ {K : Type 0} (k : Figures K) (rows : List (Row K)) (tag : ℕ) (kept : Kept rows) (may : MayStrike (extent_of rows) (state_of k rows) tag) where
+module _ {K : Type 0} (k : Figures K) (rows : List (Row K)) (tag : ℕ) (kept : Kept rows) (ok : Ok tt ≡ verdict k (extent_of rows) (state_of k rows) (Strike tag)) where
+  may_out : MayStrike (extent_of rows) (state_of k rows) tag
+  may_out = may_strike k (extent_of rows) (state_of k rows) tag ok
+
   struck_within : tag - 2 < length rows
-  struck_within = omega (arith, may.low, may.high)
+  struck_within = omega (arith, may_out.low, may_out.high)
+
+  pub struck_used : tag - 2 < 255
+  struck_used = omega (arith, may_out.low, may_out.high)
 
   struck : List (Row K)
   struck = set rows (tag - 2) (row_of Struck)
@@ -140,7 +155,7 @@ module _ {K : Type 0} (k : Figures K) (rows : List (Row K)) (tag : ℕ) (kept : 
   struck_tag : state_of k struck tag ≡ Struck
   unfolding struck
   struck_tag =
-      state_row k struck tag may.low (omega (arith, may.high, extent_same rows (tag - 2) Struck struck_within))
+      state_row k struck tag may_out.low (omega (arith, may_out.high, extent_same rows (tag - 2) Struck struck_within))
       ∙ ap (read k tag (state_of k struck)) (row_same rows (tag - 2) Struck struck_within) ∙ sym (read_struck k tag (state_of k struck))
 
   -- the row of another tag is as it was
@@ -148,7 +163,7 @@ module _ {K : Type 0} (k : Figures K) (rows : List (Row K)) (tag : ℕ) (kept : 
   unfolding struck
   struck_row t n a b =
       state_row k struck t a (omega (arith, extent_same rows (tag - 2) Struck struck_within))
-      ∙ ap (read k t (state_of k struck)) (row_other rows (tag - 2) Struck struck_within (t - 2) (λ q. n (omega (arith, may.low))))
+      ∙ ap (read k t (state_of k struck)) (row_other rows (tag - 2) Struck struck_within (t - 2) (λ q. n (omega (arith, may_out.low))))
 
   hangs_some : {q t : ℕ} → Hangs (state_of k rows) q t → stands (state_of k rows t) ≡ true
   hangs_some (states.child e p) = ap stands e
@@ -162,7 +177,7 @@ module _ {K : Type 0} (k : Figures K) (rows : List (Row K)) (tag : ℕ) (kept : 
 
   not_root : {t : ℕ} → Hangs (state_of k rows) tag t → t ≡ 1 → ⊥
   not_root (states.child {s = s} e p) q =
-      let z : s.parent ≡ 0 = root_parent (sym e ∙ ap (state_of k rows) q) in omega (arith, may.low)
+      let z : s.parent ≡ 0 = root_parent (sym e ∙ ap (state_of k rows) q) in omega (arith, may_out.low)
   not_root (states.under {s = s} e c) q =
       let z : s.parent ≡ 0 = root_parent (sym e ∙ ap (state_of k rows) q) in not_zero (subst (Hangs (state_of k rows) tag) z c)
 
@@ -204,7 +219,7 @@ module _ {K : Type 0} (k : Figures K) (rows : List (Row K)) (tag : ℕ) (kept : 
               | inl y ↦
                   let e : state_of k rows t ≡ Standing s = state_row k rows t (omega arith) in' ∙ ap (read k t (state_of k rows)) q ∙ sym (read_stands k t (state_of k rows) s f y) in
                   ap stands (struck_kept n s.parent low (λ p. apart (states.child e p)) (λ c. apart (states.under e c)))
-              | inr y ↦ ap stands (struck_kept n s.parent low (λ p. both_ways _ (ap (λ (x : ℕ). stands (state_of k rows x)) (sym p) ∙ y) may.up) (λ c. both_ways _ y (hangs_some c)))
+              | inr y ↦ ap stands (struck_kept n s.parent low (λ p. both_ways _ (ap (λ (x : ℕ). stands (state_of k rows x)) (sym p) ∙ y) may_out.up) (λ c. both_ways _ y (hangs_some c)))
             ])
             ∙ sym (state_row k rows t (omega arith) in')
       ]
