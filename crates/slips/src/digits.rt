@@ -21,6 +21,7 @@ fn parsed(field: &[u8]) -> Option<u32>
 }
 
 /// The number that a field writes: in decimal, with no leading zero, and at most `MOST`.
+#[tactic(auto, using(crate::proofs::Decimal::leads))]
 pub(crate) fn number(field: &[u8]) -> Result<u32, Cause>
     ensures { MatchResult result (λ n. Number field.now n) (λ e. (e ≡ BadNumber) × (IsNumber field.now → ⊥)) }
 {
