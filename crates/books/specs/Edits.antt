@@ -1,5 +1,5 @@
 -- Lists of edits with their answers, and the states that they explain.
-use Rattle.std.specs.Prelude.{◌≡◌, ℕ, ◌<◌, ◌≤◌, ◌⊎◌, List, [], ◌∷◌, ◌++◌, map, Option, Some, None, Ok, Err, Result, MatchResult, ◌≢◌, sum_by}
+use Rattle.std.specs.Prelude.{◌≡◌, ℕ, ◌+◌, ◌<◌, ◌≤◌, ◌⊎◌, List, [], ◌∷◌, ◌++◌, map, Option, Some, None, Ok, Err, Result, MatchResult, ◌≢◌, sum_by}
 use Rattle.lengths.specs.Figures.{Figures}
 use Rattle.books.specs.declared.causes.Refused.{Refused}
 use Rattle.books.specs.declared.edits.Edit.{Edit}

@@ -33,9 +33,11 @@ pub trait Book {
     // What a refused edit keeps besides the size and the states. A book need not say it.
     ghost keeps: { Self → Self → Type 0 } = { λ _ _. ⊤ };
 
-    /// The size.
+    /// The size. Every book is lawful, and where nothing was done, all that it leaves alone was left alone; it says so here.
     fn size(&self) -> u32
-        ensures { result ≡ extent self.now };
+        ensures answer { result ≡ extent self.now }
+        ensures lawful { Lawful Self.Kind.Length.figures (extent self.now) (state self.now) }
+        ensures alone { leaves self.now self.now };
 
     /// The state of a tag.
     fn look(&self, tag: u32) -> Result<State<Self::Kind>, Refused>
@@ -59,10 +61,4 @@ pub trait Book {
         ensures writes { OnOk result (writes self.old (Strike tag) self.new) }
         ensures refused { OnErr result (keeps self.old self.new) }
         ensures leaves { (a : Self) → leaves a self.old → leaves a self.new };
-
-    // Every book is lawful.
-    ghost lawful: { (b : Self) → Lawful Self.Kind.Length.figures (extent b) (state b) };
-
-    // Where nothing was done, all that a book leaves alone was left alone.
-    ghost alone: { (b : Self) → leaves b b };
 }

@@ -18,11 +18,9 @@ use Rattle.logs.specs.declared.lent.LogBook.{LogBook}
 use Rattle.rows.specs.declared.row.Row.{Row}
 use Rattle.rows.specs.Rows as rows
 use Rattle.rows.specs.Rows.{row_of, row_at, state_of, Kept}
-use Rattle.rows.specs.Lawful.{stood}
-use Rattle.rows.proofs.Changes.{tag_blank, grown_rows, grown_sound, struck_rows, struck_sound}
+use Rattle.rows.proofs.Changes.{stood, tag_blank, grown_rows, grown_sound, struck_rows, struck_sound}
 use Rattle.logs.specs.Logs.{extent_of, rows_of, log_state, Roomy, Leaves, Replays}
-use Rattle.logs.specs.Lawful.{rows_extent}
-use Rattle.logs.proofs.Logging.{fits, rows_set, roomy_more}
+use Rattle.logs.proofs.Logging.{rows_extent, fits, rows_set, roomy_more}
 
 pub extent_set : {K : Type 0} (entries : List (Edit K)) (i : ℕ) (e : Edit K) → extent_of (set entries i e) ≡ extent_of entries
 extent_set entries i e = ap (λ (n : ℕ). 1 + min 255 (n / 2)) (length-set entries i e)

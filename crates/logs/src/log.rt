@@ -1,6 +1,5 @@
 // The log book as a book.
-ghost use Rattle.std.specs.Prelude.{◌≡◌, take, refl};
-ghost use Rattle.logs.specs.Lawful.{lawful_log, leaves_itself};
+ghost use Rattle.std.specs.Prelude.{◌≡◌, take};
 ghost use Rattle.logs.specs.Logs.{extent_of, rows_of, log_state, Leaves, Logs, Replays};
 ghost use Rattle.logs.specs.Marks.{rows_by};
 
@@ -39,10 +38,6 @@ impl<'a, K: Length> Book for LogBook<'a, K> {
     ghost keeps = { λ a b. b ≡ a };
 
     ghost writes = { λ a e b. (b.entries.ghost_name ≡ a.entries.ghost_name) × Logs a.entries.now a.used e b.entries.now b.used × (Replays K.Length.figures a.entries.now a.used → Replays K.Length.figures b.entries.now b.used) };
-
-    ghost lawful = { λ b. lawful_log b.entries.now b.used K.Length.figures };
-
-    ghost alone = { λ b. (refl, leaves_itself b.entries.now b.used) };
 
     fn size(&self) -> u32 {
         extent_of(self.entries)

@@ -6,7 +6,7 @@ use Rattle.books.specs.declared.states.State.TheVariants.{Blank}
 use Rattle.books.specs.States.{New}
 use Rattle.rows.specs.declared.row.Row.{Row}
 use Rattle.rows.specs.Rows.{row_at, extent_of, read, state_of, sound, Kept}
-use Rattle.rows.specs.Meaning.{state_root, state_low, state_beyond, state_row, read_blank}
+use Rattle.rows.proofs.Meaning.{state_root, state_low, state_beyond, state_row, read_blank}
 
 module _ {K : Type 0} (rows : List (Row K)) (blank : (i : ℕ) → i < 255 → row_at rows i ≡ Blank) where
   pub blank_kept : Kept rows

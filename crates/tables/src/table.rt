@@ -1,7 +1,6 @@
 // The table book as a book.
-ghost use Rattle.std.specs.Prelude.{◌≡◌, ◌-◌, drop as after, slice_set, refl};
+ghost use Rattle.std.specs.Prelude.{◌≡◌, ◌-◌, drop as after, slice_set};
 ghost use Rattle.books.specs.Edits.{tag_of, written};
-ghost use Rattle.rows.specs.Lawful.{lawful_rows};
 ghost use Rattle.rows.specs.Rows.{row_of, extent_of, state_of};
 
 use crate::lent::TableBook;
@@ -35,10 +34,6 @@ impl<'a, K: Length> Book for TableBook<'a, K> {
     ghost keeps = { λ a b. b ≡ a };
 
     ghost writes = { λ a e b. (b.rows.ghost_name ≡ a.rows.ghost_name) × (b.rows.now ≡ slice_set a.rows.now (tag_of e - 2) (row_of (written e))) };
-
-    ghost lawful = { λ b. lawful_rows K.Length.figures b.rows.now };
-
-    ghost alone = { λ b. (refl, refl) };
 
     fn size(&self) -> u32 {
         self.extent()

@@ -6,18 +6,14 @@ use Rattle.plans.proofs.drawing.states_of.Goals as goal
 
 pub loop-tag-preserved : goal.loop-tag-preserved
 loop-tag-preserved g c =
-    let lawful = g.met.B.Book.lawful c.args.book.now in
-    read_more lawful (held c.loop-tag.states) (held c.put.new.self) c.loop-tag.tag c.look.result c.unwrap_or-state.result
-    c.loop-tag.auto.tag (omega (arith, c.loop-tag-test.true, c.size-size.ensures)) c.look.ensures c.unwrap_or-state.ensures c.put.ensures c.loop-tag.invariant
+    let size = c.size-size.ensures in
+    read_more size.lawful (held c.loop-tag.states) (held c.put.new.self) c.loop-tag.tag c.look.result c.unwrap_or-state.result
+    c.loop-tag.auto.tag (omega (arith, c.loop-tag-test.true, size.answer)) c.look.ensures c.unwrap_or-state.ensures c.put.ensures c.loop-tag.invariant
 
 pub returns-2 : goal.returns-2
 returns-2 g c =
-    let lawful = g.met.B.Book.lawful c.args.book.now in
+    let size = c.size-size.ensures in
     let tag = c.loop-tag.tag in
-    all_read lawful (drawn c.put.new.self) (tag + 1) (omega (arith, c.size-size.ensures))
-    (read_more lawful (held c.loop-tag.states) (held c.put.new.self) tag c.look.result c.unwrap_or-state.result
-    c.loop-tag.auto.tag (omega (arith, c.loop-tag-test.true, c.size-size.ensures)) c.look.ensures c.unwrap_or-state.ensures c.put.ensures c.loop-tag.invariant)
-
-pub returns : goal.returns
-returns g c =
-    all_read (g.met.B.Book.lawful c.args.book.now) (drawn c.loop-tag.states) c.loop-tag.tag (omega (arith, c.loop-tag-test.false, c.size-size.ensures)) c.loop-tag.invariant
+    all_read size.lawful (drawn c.put.new.self) (tag + 1) (omega (arith, size.answer))
+    (read_more size.lawful (held c.loop-tag.states) (held c.put.new.self) tag c.look.result c.unwrap_or-state.result
+    c.loop-tag.auto.tag (omega (arith, c.loop-tag-test.true, size.answer)) c.look.ensures c.unwrap_or-state.ensures c.put.ensures c.loop-tag.invariant)

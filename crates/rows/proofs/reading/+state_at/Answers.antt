@@ -2,7 +2,7 @@ use Rattle.std.proofs.Common.{◌≡◌, ◌<◌, ◌⊎◌, true, false, sym, a
 use Rattle.std.proofs.lemmas.Grind.{common_steps}
 use Rattle.books.specs.States.{stands}
 use Rattle.rows.specs.Rows.{extent_of, fit, state_of}
-use Rattle.rows.specs.Meaning.{state_root, state_out, said, read_blank, read_struck, read_stands, read_unfit, read_fallen}
+use Rattle.rows.proofs.Meaning.{state_root, state_out, said, read_blank, read_struck, read_stands, read_unfit, read_fallen}
 use Rattle.rows.proofs.reading.+state_at.Goals as goal
 use Rattle.rows.proofs.reading.+state_at.Goals.{else-fits-via-then-fits+else-is_standing, else-fits-via-else-fits}
 

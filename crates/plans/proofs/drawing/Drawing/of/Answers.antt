@@ -3,4 +3,4 @@ use Rattle.plans.proofs.Draws.{shows_falling}
 use Rattle.plans.proofs.drawing.Drawing.of.Goals as goal
 
 pub invariant_of-result-clause-falling : goal.invariant_of-result-clause-falling
-invariant_of-result-clause-falling g c = shows_falling (g.met.B.Book.lawful c.args.book.now) (drawn c.states_of-states.result) c.states_of-states.ensures
+invariant_of-result-clause-falling g c = shows_falling c.size-size.ensures.lawful (drawn c.states_of-states.result) c.states_of-states.ensures
