@@ -22,7 +22,7 @@ pub fn growth_cause<K: Length>(
     if !(1..tag).contains(&spur.parent) {
         return Some(Refusal::BadParent);
     }
-    if !K::zero().less(&spur.run) || !spur.run.is_entry() {
+    if spur.run <= K::zero() || !spur.run.is_entry() {
         return Some(Refusal::BadRun);
     }
     if !spur.drop.is_entry() {

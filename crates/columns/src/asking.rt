@@ -5,7 +5,7 @@ ghost use Rattle.slips.specs.declared.rows.Values.{Values as TheValues};
 ghost use Rattle.columns.specs.Asked.{edit_of, edit_m, edit_c, unanswered};
 
 use books::{Edit, Entry, Spur};
-use lengths::{Couplings, FirstThen, Length, Millimetres, kind_c};
+use lengths::{KindC, Length, Millimetres, kind_c};
 use slips::{Letter, Row, Values};
 use std::alloc::{AllocError, Global};
 
@@ -51,10 +51,10 @@ impl Asked for Millimetres {
     }
 }
 
-impl Asked for FirstThen<Couplings, Millimetres> {
+impl Asked for KindC {
     ghost asked = { edit_c };
 
-    fn edit(values: Values) -> Edit<FirstThen<Couplings, Millimetres>> {
+    fn edit(values: Values) -> Edit<KindC> {
         let run = kind_c(u64::from(values.couplings), u64::from(values.run));
         let drop = kind_c(0, u64::from(values.drop));
         edit_of(values, run, drop)

@@ -10,6 +10,7 @@ use Rattle.books.specs.Edits.{tag_of, written}
 use Rattle.logs.specs.Logs.{replay_one, replay}
 use Rattle.logs.specs.Marks.{row_by, mark_one, rows_by}
 use Rattle.std.proofs.lemmas.List.Sums.{fold_more}
+use Rattle.std.specs.List.{refill}
 
 -- an edit that is marked is replayed
 marked : {K : Type 0} (edits : List (Edit K)) (marks : List (Option ℕ)) (i : ℕ) (d : Edit K) → i < length edits
@@ -36,11 +37,9 @@ pub no_marks : {K : Type 0} (edits : List (Edit K)) (n : ℕ) → rows_by edits 
 no_marks edits zero = refl
 no_marks edits (suc n) = ap (λ rs. row_of Blank ∷ rs) (no_marks edits n)
 
--- edits that are marked on no marks come to what they come to on blank rows
-pub marked_rows : {K : Type 0} (edits : List (Edit K)) (count : ℕ) (marks rest : List (Option ℕ)) → count ≤ 255 → length marks ≡ length (take count (replicate {A = Option ℕ} 255 None))
-    → rows_by edits marks ≡ replay (rows_by edits (take count (replicate 255 None))) edits → rows_by edits (take count (marks ++ rest)) ≡ replay (replicate count (row_of Blank)) edits
-marked_rows edits count marks rest within long h =
-    let none : take count (replicate {A = Option ℕ} 255 None) ≡ replicate count None = take-replicate count 255 None within in
-    let all : length marks ≡ count = long ∙ ap length none ∙ length-replicate count None in
-    ap (rows_by edits) (take-append-le count marks rest (omega arith) ∙ take_all count marks (omega arith))
-    ∙ h ∙ ap (λ (ms : List (Option ℕ)). replay (rows_by edits ms) edits) none ∙ ap (λ rs. replay rs edits) (no_marks edits count)
+-- edits that are marked on no marks, which are put back, come to what they come to on blank rows
+pub marked_refill : {K : Type 0} (edits : List (Edit K)) (count : ℕ) (xs marks : List (Option ℕ)) → count ≤ 255 → xs ≡ take count (replicate {A = Option ℕ} 255 None)
+    → length marks ≡ length xs → rows_by edits marks ≡ replay (rows_by edits xs) edits → rows_by edits (refill (length xs) xs marks) ≡ replay (replicate count (row_of Blank)) edits
+marked_refill edits count xs marks within is long h =
+    ap (rows_by edits) (take-append-le (length xs) marks _ (omega arith) ∙ take_all (length xs) marks (omega arith))
+    ∙ h ∙ ap (λ (ms : List (Option ℕ)). replay (rows_by edits ms) edits) (is ∙ take-replicate count 255 None within) ∙ ap (λ rs. replay rs edits) (no_marks edits count)

@@ -19,7 +19,7 @@ fn extent_of<K>(entries: &[Edit<K>]) -> u32
 impl<'a, K: Length> LogBook<'a, K> {
     /// The rows that the edits kept come to. So each call costs steps by the number of edits kept.
     fn replayed(&self) -> Replayed<'_, K>
-        ensures { rows_by result.edits.now (take result.count result.marks) ≡ rows_of self.now.entries.now self.now.used }
+        ensures { rows_by result.edits.now result.marks.items ≡ rows_of self.now.entries.now self.now.used }
     {
         let count = extent_of(self.entries) as usize - 1;
         Replayed::new(&self.entries[..self.used], count)

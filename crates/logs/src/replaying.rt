@@ -1,10 +1,11 @@
 // Replaying edits: the rows that they come to.
-ghost use Rattle.std.specs.Prelude.{◌≡◌, ◌≤◌, replicate, take};
+ghost use Rattle.std.specs.Prelude.{◌≡◌, ◌≤◌, replicate};
 ghost use Rattle.books.specs.declared.states.State.TheVariants.{Blank};
 ghost use Rattle.logs.specs.Logs.{replay};
 ghost use Rattle.logs.specs.Marks.{mark_one, rows_by};
 ghost use Rattle.rows.specs.Rows.{row_of};
 
+use arrayvec::ArrayVec;
 use books::{Edit, State};
 use lengths::Length;
 use rows::{Rows, size_for};
@@ -14,10 +15,7 @@ use rows::{Rows, size_for};
 #[derive(Drop)]
 pub(crate) struct Replayed<'e, K> {
     pub(crate) edits: &'e [Edit<K>],
-    pub(crate) marks: [Option<usize>; 255],
-    // how many rows there are, so many of the marks: an array with a length beside, since a book takes no memory from a heap
-    pub(crate) count: usize,
-    ghost within: { count ≤ 255 },
+    pub(crate) marks: ArrayVec<Option<usize>, 255>,
 }
 
 /// Marks the row of an edit's tag, if there is one.
@@ -43,29 +41,26 @@ impl<'e, K: Length> Replayed<'e, K> {
     /// Replays edits, oldest first, on so many blank rows.
     pub(crate) fn new(edits: &'e [Edit<K>], count: usize) -> Replayed<'e, K>
         requires { count ≤ 255 }
-        ensures { rows_by result.edits.now (take result.count result.marks) ≡ replay (replicate count (row_of Blank)) edits.entry.now }
+        ensures { rows_by result.edits.now result.marks.items ≡ replay (replicate count (row_of Blank)) edits.entry.now }
     {
-        let mut marks = [None; 255];
-        mark(&mut marks[..count], edits);
-        Replayed {
-            edits,
-            marks,
-            count,
-        }
+        let mut marks = ArrayVec::from([None; 255]);
+        marks.truncate(count);
+        mark(marks.as_mut_slice(), edits);
+        Replayed { edits, marks }
     }
 }
 
 impl<'e, K: Length> Rows for Replayed<'e, K> {
     type Kind = K;
 
-    ghost rows = { λ b. rows_by b.edits.now (take b.count b.marks) };
+    ghost rows = { λ b. rows_by b.edits.now b.marks.items };
 
     fn extent(&self) -> u32 {
-        size_for(self.count)
+        size_for(self.marks.len())
     }
 
     fn row(&self, index: usize) -> State<K> {
-        let Some(Some(last)) = self.marks[..self.count].get(index) else {
+        let Some(Some(last)) = self.marks.get(index) else {
             return State::Blank;
         };
         let Some(edit) = self.edits.get(*last) else {

@@ -12,20 +12,20 @@ use Rattle.plans.specs.Drawn.{parent_of, run_of, drop_of, drop_at}
 
 module _ {K : Type 0} where
   -- the spur that a state gives: its parent, run and drop
-  abbrev pub spur_of : Figures K → State K → Spur K
-  spur_of k s = record { parent = parent_of s; run = run_of k s; drop = drop_of k s }
+  abbrev pub spur_in : Figures K → State K → Spur K
+  spur_in k s = record { parent = parent_of s; run = run_of k s; drop = drop_of k s }
 
   -- a state that stands is what its parent, run and drop say
-  pub as_standing : (k : Figures K) (s : State K) → stands s ≡ true → s ≡ Standing (spur_of k s)
+  pub as_standing : (k : Figures K) (s : State K) → stands s ≡ true → s ≡ Standing (spur_in k s)
   as_standing k Blank h = cc
   as_standing k Struck h = cc
   as_standing k (Standing s) h = refl
 
 module _ {K : Type 0} {k : Figures K} {size : ℕ} {state : ℕ → State K} (lawful : Lawful k size state) where
   -- a point other than the root is tied to its parent
-  pub tied_as : (t : ℕ) → Point state t → (t ≡ 1 → ⊥) → Tied k state t (spur_of k (state t))
+  pub tied_as : (t : ℕ) → Point state t → (t ≡ 1 → ⊥) → Tied k state t (spur_in k (state t))
   tied_as t s n =
-      lawful.tied t (spur_of k (state t)) n (as_standing k (state t) s)
+      lawful.tied t (spur_in k (state t)) n (as_standing k (state t) s)
 
   -- the tag of a point is at least 1
   pub point_low : (t : ℕ) → Point state t → 1 ≤ t
@@ -59,7 +59,7 @@ module _ {K : Type 0} {k : Figures K} {size : ℕ} {state : ℕ → State K} (la
   }
 
   -- a point has the state that the tree says, with its drop
-  pub state_as : (t : ℕ) → Point state t → state t ≡ Standing (spur_of k (state t))
+  pub state_as : (t : ℕ) → Point state t → state t ≡ Standing (spur_in k (state t))
   state_as t s = as_standing k (state t) s
 
   -- the drop of every point is an entry

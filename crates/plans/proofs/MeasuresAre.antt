@@ -12,7 +12,7 @@ use Rattle.trees.proofs.Reaches.{greatest_from}
 use Rattle.trees.proofs.Adds.{sum_below, sum_over}
 use Rattle.plans.specs.Ways.{Point}
 use Rattle.plans.specs.Measures.{On as Lies, Distance, Nearest, Reach, Total, none, point, other}
-use Rattle.plans.proofs.Loom.{spur_of, tree_of, state_as}
+use Rattle.plans.proofs.Loom.{spur_in, tree_of, state_as}
 use Rattle.plans.specs.Drawn.{drop_of, drop_at}
 use Rattle.plans.proofs.WaysThere.{way_there, way_length, among_on, on_among}
 use Rattle.plans.proofs.Greatest.{attained}
@@ -88,7 +88,7 @@ module _ {K : Type 0} {k : Figures K} {size : ℕ} {state : ℕ → State K} (la
             let v : stands (state p) ≡ true = ap stands e in
             rw (nearest_is a b p d s t v n, ← ap (drop_of k) e) (in_reach a b p v);
         point = y;
-        spur = spur_of k (state y);
+        spur = spur_in k (state y);
         distance = nearest (tree_of lawful) y a b;
         stands = state_as lawful y u;
         nearest = nearest_from a b y s t u;

@@ -1,12 +1,19 @@
 -- A tree that was read out of a book.
-use Rattle.std.specs.Prelude.{◌≡◌, ℕ, ◌-◌, ◌<◌, ◌≤◌}
+use Rattle.std.specs.Prelude.{◌≡◌, ℕ, ◌-◌, ◌<◌, ◌≤◌, Some, None, Option}
 use Rattle.lengths.specs.Figures.{Figures}
+use Rattle.books.specs.declared.states.Spur.{Spur}
 use Rattle.books.specs.declared.states.State.{State}
 use Rattle.books.specs.declared.states.State.TheVariants.{Blank, Struck, Standing}
 use Rattle.cells.specs.declared.columns.Column.{Column}
 use Rattle.cells.specs.Columns.{held}
 
 module _ {K : Type 0} where
+  -- the spur that a state gives, where it stands
+  abbrev pub spur_of : State K → Option (Spur K)
+  spur_of Blank = None
+  spur_of Struck = None
+  spur_of (Standing s) = Some s
+
   -- the parent that a state gives; 0 where it does not stand
   abbrev pub parent_of : State K → ℕ
   parent_of Blank = 0

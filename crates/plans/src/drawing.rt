@@ -1,9 +1,9 @@
 // The tree of a loom, as it was read out of its book.
 ghost use Rattle.std.specs.Prelude.{◌≡◌, ℕ, ◌<◌, ◌≤◌, false, slice_index_or};
-ghost use Rattle.plans.specs.Drawn.{parent_of, run_of, drop_of, drawn, Shows, Falling};
+ghost use Rattle.plans.specs.Drawn.{spur_of, parent_of, run_of, drop_of, drawn, Shows, Falling};
 ghost use Rattle.trees.proofs.Trees.{side_by};
 
-use books::{Book, State};
+use books::{Book, Spur, State};
 use cells::Column;
 use lengths::Length;
 
@@ -41,15 +41,23 @@ impl<K: Length> Drawing<K> {
         Drawing { size, states }
     }
 
-    /// The parent of a tag; 0 where it does not stand.
+    /// The spur of a tag, where it stands.
+    fn spur_of(&self, tag: usize) -> Option<Spur<K>>
+        requires { 1 ≤ tag }
+        ensures { result ≡ spur_of (drawn self.now.states tag) }
+    {
+        match self.states.get(tag - 1) {
+            State::Standing(spur) => Some(spur),
+            State::Struck | State::Blank => None,
+        }
+    }
+
+    /// The parent of a tag; 0 where it does not stand. (No Option: the states themselves give the root the parent 0.)
     pub(crate) fn parent_of(&self, tag: usize) -> usize
         requires { 1 ≤ tag }
         ensures { result ≡ parent_of (drawn self.now.states tag) }
     {
-        match self.states.get(tag - 1) {
-            State::Standing(spur) => spur.parent as usize,
-            State::Struck | State::Blank => 0,
-        }
+        self.spur_of(tag).map_or(0, |spur| spur.parent as usize)
     }
 
     /// The run of a tag; zero where it does not stand.
@@ -57,10 +65,7 @@ impl<K: Length> Drawing<K> {
         requires { 1 ≤ tag }
         ensures { result ≡ run_of K.figures (drawn self.now.states tag) }
     {
-        match self.states.get(tag - 1) {
-            State::Standing(spur) => spur.run,
-            State::Struck | State::Blank => K::zero(),
-        }
+        self.spur_of(tag).map_or(K::zero(), |spur| spur.run)
     }
 
     /// The drop of a tag; zero where it does not stand.
@@ -68,10 +73,7 @@ impl<K: Length> Drawing<K> {
         requires { 1 ≤ tag }
         ensures { result ≡ drop_of K.figures (drawn self.now.states tag) }
     {
-        match self.states.get(tag - 1) {
-            State::Standing(spur) => spur.drop,
-            State::Struck | State::Blank => K::zero(),
-        }
+        self.spur_of(tag).map_or(K::zero(), |spur| spur.drop)
     }
 
     /// The tags that are met on going up from a tag: it, and all that it hangs from.

@@ -26,7 +26,7 @@ fn fits<K: Length>(tag: u32, spur: &Spur<K>) -> bool
     ensures { result ≡ fit K.figures tag spur.now }
 {
     (1..tag).contains(&spur.parent)
-        && K::zero().less(&spur.run)
+        && K::zero() < spur.run
         && spur.run.is_entry()
         && spur.drop.is_entry()
 }
