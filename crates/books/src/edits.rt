@@ -44,7 +44,8 @@ pub struct Entry<K> {
 }
 
 impl<K: Copy> Entry<K> {
-    /// The number of the answer: 0 for accepted, else the number of the refusal; 255 where there is none yet.
+    /// The number of the answer: 0 for accepted, else the number of the refusal; 255, which is no number of a refusal, where there
+    /// is none yet. (Numbers, since reports and tables are written in them.)
     pub fn number(&self) -> u8
         ensures { result ≡ answer_number self.now.answer }
     {

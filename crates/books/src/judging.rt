@@ -1,4 +1,5 @@
-// The causes, checked in one place for every book.
+// The causes, checked in one place for every book. Each is an Option, and not yet an error: with the tag it becomes one where a
+// book answers (`answer_with`).
 ghost use Rattle.std.specs.Prelude.{◌≡◌, not, ◌||◌};
 ghost use Rattle.books.specs.Causes.{answered, first_cause, growth_causes, strike_causes, look_causes};
 

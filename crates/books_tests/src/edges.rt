@@ -17,7 +17,8 @@ fn a_table_has_one_tag_more_than_rows_up_to_256(rt: HostRuntime) -> Result<(), F
     Ok(())
 }
 
-/// The number of a refusal, and 0 where there is none.
+/// The number of a refusal, and 0 where there is none. (The tests of the log have this and the table below too: each crate of tests
+/// stands on its own book alone.)
 fn number(answer: Result<(), Refused>) -> u8 {
     match answer {
         Ok(()) => 0,

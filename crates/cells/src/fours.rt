@@ -61,6 +61,7 @@ impl<C: Cells> Cells for Four<C> {
 
     fn get(&self, index: usize) -> C::Item {
         let inner = index / 4;
+        // a match and no array of four: over a type parameter its size would be owed
         match index % 4 {
             0 => self.a.get(inner),
             1 => self.b.get(inner),

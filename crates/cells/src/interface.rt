@@ -1,8 +1,8 @@
 // The interface of cells, from which a column is built.
 ghost use Rattle.std.specs.Prelude.{◌≡◌, ℕ, ◌<◌, if◌then◌else◌, nat_eq};
 
-/// A fixed number of places, each with a value. A place is named by a number; past the last place the numbers begin again
-/// with the first, so that every number names one.
+/// A fixed number of places, each with a value. A place is named by a number. Every number may be asked for, also past the last
+/// place; what is promised of a put is promised of the numbers below the count.
 pub trait Cells: Copy {
     /// What a place holds.
     type Item: Copy;

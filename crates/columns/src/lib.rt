@@ -23,6 +23,7 @@ pub fn slip_report(heap: Global, slip: &[u8]) -> Result<String, AllocError>
     ensures only { IfOk result (λ t. (other : List ℕ) → Reported slip.now other → other ≡ string_bytes t) }
 {
     let Contents { rows, fault } = read_slip(heap, slip)?;
+    // two lists and not one of pairs: `apply` takes the entries of one kind
     let mut in_m = waiting::<KindM>(heap, rows.as_slice())?;
     let mut in_c = waiting::<KindC>(heap, rows.as_slice())?;
     try_in_table(in_m.as_mut_slice());

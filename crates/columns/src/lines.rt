@@ -23,7 +23,8 @@ pub(crate) fn put_rows(
     Ok(())
 }
 
-/// Adds a line for the fault, with its number in both columns, where there is one.
+/// Adds a line for the fault, with its number in both columns, where there is one. (Crate `report` has it for its one column: the
+/// numbers of a line are an array, and its length cannot be a parameter, since that would owe that it fits in memory.)
 pub(crate) fn put_fault(text: &mut String, fault: Option<Fault>) -> Result<(), AllocError>
     ensures { OnOk result (string_bytes text.new ≡ string_bytes text.old ++ fault_text 2 fault) }
 {

@@ -1,4 +1,5 @@
-// Doing edits on new books.
+// Doing edits on new books: in each kind the one book that it is done in, on memory of its own. (Not one function: the books, the
+// kinds and what is lent to them all differ.)
 ghost use Rattle.std.specs.Prelude.{map};
 ghost use Rattle.lengths.specs.Whole.{mm};
 ghost use Rattle.lengths.specs.Pairs.{kind_c_figures};

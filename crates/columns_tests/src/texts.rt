@@ -1,4 +1,4 @@
-// Slips, each with the report of it.
+// Slips, each with the report of it. (As in the tests of crate `report`, which stand on that crate alone.)
 use columns::slip_report;
 use std::test::Fail;
 

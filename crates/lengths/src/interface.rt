@@ -16,14 +16,14 @@ pub trait Length: Copy + Ord {
     fn plus(self, other: Self) -> Self
         ensures { result ≡ figures.sum self other };
 
-    /// Whether this figure is less than the other.
+    /// Whether this figure is less than the other: what `<` says, in the words of the kind.
     fn less(&self, other: &Self) -> bool
         ensures { result ≡ figures.less self.now other.now }
     {
         self < other
     }
 
-    /// Whether the two are the same figure.
+    /// Whether the two are the same figure: what `==` says.
     fn same(&self, other: &Self) -> bool
         ensures { Decides result (self.now ≡ other.now) }
     {

@@ -47,6 +47,7 @@ impl<'a, K: Length> Book for LogBook<'a, K> {
         judge_look(&self.replayed(), tag)
     }
 
+    // A growth and a strike differ in what is judged and in the entry; one method for both would repeat the trait's clauses.
     fn grow(&mut self, tag: u32, spur: &Spur<K>) -> Result<(), Refused> {
         judge_growth(&self.replayed(), tag, spur)?;
         self.entries[self.used] = Edit::Growth { tag, spur: *spur };

@@ -82,7 +82,7 @@ fn a_table_opened_on_old_rows_is_new(rt: HostRuntime) {
     assert!(rt; is_new(&book));
 }
 
-/// The number of a refusal, and 0 where there is none.
+/// The number of a refusal, and 0 where there is none. (As in the tests of the table book, which stand on that book alone.)
 fn number(answer: Result<(), Refused>) -> u8 {
     match answer {
         Ok(()) => 0,

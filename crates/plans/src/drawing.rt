@@ -41,6 +41,8 @@ impl<K: Length> Drawing<K> {
         Drawing { size, states }
     }
 
+    // Tags are plain numbers from 1 on, as in a book; a type for them would be taken apart at each use.
+
     /// The spur of a tag, where it stands.
     fn spur_of(&self, tag: usize) -> Option<Spur<K>>
         requires { 1 ≤ tag }

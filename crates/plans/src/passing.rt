@@ -21,6 +21,8 @@ impl<K: Length> Drawing<K> {
         }
     }
 
+    // The memory is lent to each pass by itself and is as long as its caller has it, so each asks that it is long enough.
+
     /// Downwards: at each tag that both ways up meet, how long their common way is from there on.
     pub(crate) fn pass_down(&self, sides: &Sides, memory: &mut [K])
         requires { self.now.size ≤ length memory.old }

@@ -24,7 +24,7 @@ fn put_rows(text: &mut String, rows: &[Row<'_>]) -> Result<(), AllocError>
 }
 
 /// Adds a line for the fault, answered by its number, where there is one. (Not once for any number of columns: an array of that many
-/// numbers would owe that it fits in memory.)
+/// numbers would owe that it fits in memory, and a count would need the loop of `put_line` once more.)
 fn put_fault(text: &mut String, fault: Option<Fault>) -> Result<(), AllocError>
     ensures { OnOk result (string_bytes text.new ≡ string_bytes text.old ++ fault_text 1 fault) }
 {

@@ -4,7 +4,8 @@ ghost use Rattle.report.specs.Lines.{line_text};
 
 use std::alloc::AllocError;
 
-/// Adds one line to a report: a line of the slip, and a number in each column.
+/// Adds one line to a report: a line of the slip, and a number in each column. (Functions over the text that is lent: a struct
+/// around the one String would say no more.)
 pub fn put_line(text: &mut String, line: usize, numbers: &[u8]) -> Result<(), AllocError>
     ensures { OnOk result (string_bytes text.new ≡ string_bytes text.old ++ line_text line numbers.now) }
 {

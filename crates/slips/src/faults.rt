@@ -16,7 +16,8 @@ pub enum Cause {
 }
 
 impl Cause {
-    /// The number of this cause in the table of refusals.
+    /// The number of this cause in the table of refusals. (A method, not a `From`: `fault.cause.number()` says which number it
+    /// is, and `u8::from(fault.cause)` does not.)
     pub fn number(self) -> u8
         ensures { result ≡ cause_number self }
     {

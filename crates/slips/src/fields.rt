@@ -112,7 +112,9 @@ impl Parts<'_> {
         Ok(numbers)
     }
 
-    /// The values of a row with this letter and these fields. A strike with a number after the tag that is not 0 is refused.
+    /// The values of a row with this letter and these fields. A strike with a number after the tag that is not 0 is refused. (The
+    /// writer tests the same of numbers that have no place in a line, so its refusal is another; what they share is
+    /// `nonzero_after_tag`.)
     fn values(&self, letter: Letter) -> Result<Values, RowFault>
         ensures { MatchResult result (λ v. (v.letter ≡ letter) × Proper v × (bytes_of self.now.fields ≡ map decimal (numbers v))) (λ f. NumberFault letter (bytes_of self.now.fields) f) }
     {
@@ -168,6 +170,7 @@ impl<'a> Reader<'a> {
                 bytes: &bytes[..1],
                 place: byte,
             },
+            // one by one: with `map` of the array what its closure owes stayed unproved
             tag: tag.moved(byte),
             parent: parent.moved(byte),
             couplings: couplings.moved(byte),

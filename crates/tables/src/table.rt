@@ -43,6 +43,7 @@ impl<'a, K: Length> Book for TableBook<'a, K> {
         judge_look(self, tag)
     }
 
+    // A growth and a strike differ in what is judged and in the row; one method for both would repeat the trait's clauses.
     fn grow(&mut self, tag: u32, spur: &Spur<K>) -> Result<(), Refused> {
         judge_growth(self, tag, spur)?;
         self.rows[tag as usize - 2] = Row {

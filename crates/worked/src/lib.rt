@@ -8,7 +8,7 @@ ghost use Rattle.worked.specs.Worked.{growth_of, case, cases, WorkedOut};
 use books::{Edit, Spur};
 use lengths::{KindM, Millimetres};
 
-/// An edit, and the number of its answer.
+/// An edit, and the number of its answer. (A number, as whoever works the cases out by hand finds it in the table of refusals.)
 #[derive(Clone, Copy, PartialEq, Eq, Debug)]
 pub struct Case {
     pub edit: Edit<KindM>,
