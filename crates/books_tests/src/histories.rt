@@ -1,4 +1,4 @@
-// Lists of edits on a table, with what each is answered. (The tests of the log do such a history on both books.)
+// Lists of edits on a table, done at once, with what each is answered. (Crate `logs_tests` does such edits one by one, on both books.)
 use books::{Edit, Entry, Spur, apply};
 use lengths::{KindM, Millimetres};
 use tables::{Row, TableBook};

@@ -1,4 +1,4 @@
-//! Tests of the crates `books` and `tables`, through their public names alone.
+//! Tests of the crate `books` and of what both books answer at their edges, through their public names alone.
 #![tactic(auto)]
 
 #[cfg(test)]

@@ -1,34 +1,8 @@
-// The size of a log by the memory lent to it, what each book finds there, and where each refusal of a log begins.
-use books::{Book, Edit, Refused, Spur, State};
+// What each book finds in memory that was used before, and what a log leaves of it.
+use books::{Book, Edit, Spur, State};
 use lengths::{KindM, Millimetres};
 use logs::LogBook;
-use std::test::Fail;
 use tables::{Row, TableBook};
-
-/// Whether a book has this size and no tag beyond it.
-fn ends_at<B: Book>(book: &B, size: u32) -> bool {
-    book.size() == size && book.look(size).is_ok() && book.look(size + 1).is_err()
-}
-
-const ENTRIES: [(usize, u32); 7] = [
-    (0, 1),
-    (1, 1),
-    (2, 2),
-    (508, 255),
-    (509, 255),
-    (510, 256),
-    (600, 256),
-];
-
-#[test]
-fn a_log_has_one_tag_more_than_pairs_of_entries_up_to_256(rt: HostRuntime) -> Result<(), Fail> {
-    for (entries, size) in ENTRIES {
-        let mut entries = vec![in rt.alloc(); Edit::<KindM>::Strike { tag: 2 }; entries]?;
-        let book = LogBook::open(entries.as_mut_slice());
-        assert!(rt; ends_at(&book, size));
-    }
-    Ok(())
-}
 
 /// Whether every tag but the root is blank in a book of three tags.
 fn is_new<B: Book>(book: &B) -> bool {
@@ -80,39 +54,4 @@ fn a_table_opened_on_old_rows_is_new(rt: HostRuntime) {
     drop(book);
     let book = TableBook::open(&mut rows);
     assert!(rt; is_new(&book));
-}
-
-/// The number of a refusal, and 0 where there is none. (As in the tests of the table book, which stand on that book alone.)
-fn number(answer: Result<(), Refused>) -> u8 {
-    match answer {
-        Ok(()) => 0,
-        Err(refused) => refused.cause.number(),
-    }
-}
-
-// tag, parent, run and drop of growths on a new book of five tags, each with its answer
-const GROWTHS: [(u32, u32, u64, u64, u8); 12] = [
-    (2, 1, 1_000_000, 0, 0),
-    (3, 1, 1, 1_000_000, 0),
-    (4, 1, 0, 0, 3),
-    (4, 1, 1_000_001, 0, 3),
-    (4, 1, 1, 1_000_001, 4),
-    (4, 4, 0, 0, 2),
-    (4, 0, 0, 0, 2),
-    (6, 1, 1, 0, 1),
-    (1, 0, 0, 0, 1),
-    (0, 0, 0, 0, 1),
-    (2, 1, 1, 0, 5),
-    (5, 4, 1, 0, 7),
-];
-
-#[test]
-fn growths_are_refused_by_the_first_cause_in_a_log(rt: HostRuntime) {
-    let mut entries = [growth(2); 9];
-    let mut book = LogBook::open(&mut entries);
-    for (tag, parent, run, drop, answer) in GROWTHS {
-        let run = Millimetres { value: run };
-        let drop = Millimetres { value: drop };
-        assert!(rt; number(book.grow(tag, &Spur { parent, run, drop })) == answer);
-    }
 }

@@ -61,22 +61,25 @@ fn what_was_struck_stays_struck_in_a_log(rt: HostRuntime) {
     answers(&rt, &mut book, kind_c(1, 5));
 }
 
+/// Checks that a new book of 256 tags answers the worked cases as they say.
+fn check_worked_cases<B: Book<Kind = KindM>>(rt: &impl Abort, book: &mut B) {
+    for case in worked_cases() {
+        assert!(rt; number(book, case.edit) == case.number);
+    }
+}
+
 #[test]
 fn worked_cases_come_out_in_a_table(rt: HostRuntime) {
     let mut rows = [Row::<KindM>::blank(); 255];
     let mut book = TableBook::open(&mut rows);
-    for case in worked_cases() {
-        assert!(rt; number(&mut book, case.edit) == case.number);
-    }
+    check_worked_cases(&rt, &mut book);
 }
 
 #[test]
 fn worked_cases_come_out_in_a_log(rt: HostRuntime) {
     let mut entries = [Edit::<KindM>::Strike { tag: 9 }; 510];
     let mut book = LogBook::open(&mut entries);
-    for case in worked_cases() {
-        assert!(rt; number(&mut book, case.edit) == case.number);
-    }
+    check_worked_cases(&rt, &mut book);
 }
 
 /// An edit that has no answer yet, in kind M with a run of 5.
