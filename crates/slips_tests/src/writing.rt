@@ -5,69 +5,71 @@ use std::alloc::Global;
 use std::process::Abort;
 use std::test::Fail;
 
-/// What writing a row into the first `room` bytes of a buffer of dots answers, and the buffer after it.
-fn write_over_dots(
-    rt: &impl Abort,
+/// A letter and five numbers that are to be written as a row, with what to say where a check fails.
+#[derive(Clone, Copy)]
+struct Asked<'a> {
     letter: char,
     numbers: [u32; 5],
-    room: usize,
-    note: &str,
-) -> (Result<usize, WriteFault>, [u8; 50]) {
-    assert!(rt; room <= 50, "{note}");
-    let mut buffer = [b'.'; 50];
-    let answer = write_row(letter, numbers, &mut buffer[0..room]);
-    (answer, buffer)
+    note: &'a str,
 }
 
-/// Checks that a row is refused in a buffer of so many bytes, and that nothing is written.
-fn check_refused(
-    rt: &impl Abort,
-    letter: char,
-    numbers: [u32; 5],
-    room: usize,
-    fault: WriteFault,
-    note: &str,
-) {
-    let (answer, buffer) = write_over_dots(rt, letter, numbers, room, note);
-    assert_eq!(rt; answer.err(), Some(fault), "{note}");
-    assert_eq!(rt; buffer, [b'.'; 50], "{note}");
-}
-
-/// Checks that a row is written as this line in a buffer of so many bytes, and that the bytes after it stay.
-fn check_written(
-    rt: &impl Abort,
-    letter: char,
-    numbers: [u32; 5],
-    room: usize,
-    line: &[u8],
-    note: &str,
-) {
-    let (answer, buffer) = write_over_dots(rt, letter, numbers, room, note);
-    assert_eq!(rt; answer.ok(), Some(line.len()), "{note}");
-    assert!(rt; buffer.starts_with(line), "{note}");
-    for b in buffer.iter().skip(line.len()) {
-        assert_eq!(rt; *b, b'.', "{note}");
+impl Asked<'_> {
+    /// What writing into the first `room` bytes of a buffer of dots answers, and the buffer after it.
+    fn over_dots(&self, rt: &impl Abort, room: usize) -> (Result<usize, WriteFault>, [u8; 50]) {
+        let note = self.note;
+        assert!(rt; room <= 50, "{note}");
+        let mut buffer = [b'.'; 50];
+        let answer = write_row(self.letter, self.numbers, &mut buffer[0..room]);
+        (answer, buffer)
     }
-}
 
-/// Checks that a line is read back as this row.
-fn check_read_back(
-    rt: &impl Abort,
-    heap: Global,
-    letter: char,
-    numbers: [u32; 5],
-    line: &[u8],
-    note: &str,
-) -> Result<(), Fail> {
-    let slip = [NAMES_LINE, line].concat(heap)?;
-    let contents = read_slip(heap, slip.as_slice())?;
-    assert!(rt; contents.fault.is_none(), "{note}");
-    assert_eq!(rt; contents.rows.len(), 1, "{note}");
-    for row in &contents.rows {
-        assert_eq!(rt; char::from(u8::from(row.values.letter)), letter, "{note}");
-        assert_eq!(rt; row.values.numbers(), numbers, "{note}");
+    /// Checks that the row is refused in a buffer of so many bytes, and that nothing is written.
+    fn check_refused(&self, rt: &impl Abort, room: usize, fault: WriteFault) {
+        let note = self.note;
+        let (answer, buffer) = self.over_dots(rt, room);
+        assert_eq!(rt; answer.err(), Some(fault), "{note}");
+        assert_eq!(rt; buffer, [b'.'; 50], "{note}");
     }
-    Ok(())
+
+    /// Checks that the row is written as this line in a buffer of so many bytes, and that the bytes after it stay.
+    fn check_written(&self, rt: &impl Abort, room: usize, line: &[u8]) {
+        let note = self.note;
+        let (answer, buffer) = self.over_dots(rt, room);
+        assert_eq!(rt; answer.ok(), Some(line.len()), "{note}");
+        assert!(rt; buffer.starts_with(line), "{note}");
+        for b in buffer.iter().skip(line.len()) {
+            assert_eq!(rt; *b, b'.', "{note}");
+        }
+    }
+
+    /// Checks that the line is read back as this row.
+    fn check_read_back(&self, rt: &impl Abort, heap: Global, line: &[u8]) -> Result<(), Fail> {
+        let note = self.note;
+        let slip = [NAMES_LINE, line].concat(heap)?;
+        let contents = read_slip(heap, slip.as_slice())?;
+        assert!(rt; contents.fault.is_none(), "{note}");
+        assert_eq!(rt; contents.rows.len(), 1, "{note}");
+        for row in &contents.rows {
+            assert_eq!(rt;
+                char::from(u8::from(row.values.letter)),
+                self.letter,
+                "{note}"
+            );
+            assert_eq!(rt; row.values.numbers(), self.numbers, "{note}");
+        }
+        Ok(())
+    }
+
+    /// Checks that the row is written as this line where the line has room, and that the line is read back as the row.
+    fn check_line(&self, rt: &impl Abort, heap: Global, line: &[u8]) -> Result<(), Fail> {
+        let note = self.note;
+        let len = line.len();
+        assert!(rt; 1 <= len, "{note}");
+        self.check_refused(rt, len - 1, WriteFault::ShortBuffer);
+        self.check_written(rt, len, line);
+        self.check_written(rt, 50, line);
+        self.check_read_back(rt, heap, line)
+    }
 }
 
 const LINES: [(char, [u32; 5], &[u8]); 7] = [
@@ -88,28 +90,16 @@ const LINES: [(char, [u32; 5], &[u8]); 7] = [
     ('S', [1_000_000, 0, 0, 0, 0], b"S,1000000,0,0,0,0\n"),
 ];
 
-/// Checks that a row is written as this line where the line has room, and that the line is read back as the row.
-fn check_line(
-    rt: &impl Abort,
-    heap: Global,
-    letter: char,
-    numbers: [u32; 5],
-    line: &[u8],
-    note: &str,
-) -> Result<(), Fail> {
-    let len = line.len();
-    assert!(rt; 1 <= len, "{note}");
-    check_refused(rt, letter, numbers, len - 1, WriteFault::ShortBuffer, note);
-    check_written(rt, letter, numbers, len, line, note);
-    check_written(rt, letter, numbers, 50, line, note);
-    check_read_back(rt, heap, letter, numbers, line, note)
-}
-
 #[test]
 fn a_row_is_written_and_read_back(rt: HostRuntime) -> Result<(), Fail> {
     for (i, (letter, numbers, line)) in LINES.iter().enumerate() {
         let note = format!(in rt.alloc(); "in case {i}")?;
-        check_line(&rt, rt.alloc(), *letter, *numbers, *line, note.as_str())?;
+        let asked = Asked {
+            letter: *letter,
+            numbers: *numbers,
+            note: note.as_str(),
+        };
+        asked.check_line(&rt, rt.alloc(), *line)?;
     }
     Ok(())
 }
@@ -144,10 +134,19 @@ fn a_wrong_row_is_not_written(rt: HostRuntime) -> Result<(), Fail> {
     for (i, (letter, numbers, cause, field)) in REFUSED.iter().enumerate() {
         let fault = WriteFault::InField(*cause, *field);
         let note = format!(in rt.alloc(); "in case {i}")?;
-        check_refused(&rt, *letter, *numbers, 50, fault, note.as_str());
+        let asked = Asked {
+            letter: *letter,
+            numbers: *numbers,
+            note: note.as_str(),
+        };
+        asked.check_refused(&rt, 50, fault);
         // that the buffer is too short comes last
         let note = format!(in rt.alloc(); "in case {i}, no room")?;
-        check_refused(&rt, *letter, *numbers, 0, fault, note.as_str());
+        let asked = Asked {
+            note: note.as_str(),
+            ..asked
+        };
+        asked.check_refused(&rt, 0, fault);
     }
     Ok(())
 }
