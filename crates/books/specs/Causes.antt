@@ -52,7 +52,16 @@ strike_causes size at tag = (nat_lt tag 2 || nat_lt size tag, OutOfRange) ∷ ((
 abbrev pub look_causes : ℕ → ℕ → Table
 look_causes size tag = (nat_lt tag 1 || nat_lt size tag, OutOfRange) ∷ []
 
+-- what a check of the causes answers: the first cause is its error
+abbrev pub checked : Option Refusal → Result (Unit {0}) Refusal
+checked None = Ok tt
+checked (Some r) = Err r
+
+-- a refusal with the tag of the call
+abbrev pub refused : Refusal → ℕ → Refused
+refused r tag = record { cause = r; tag = tag }
+
 -- what a call answers: the first cause, with the tag, or else this
 abbrev pub answered : {T : Type 0} → ℕ → T → Option Refusal → Result T Refused
 answered tag x None = Ok x
-answered tag x (Some r) = Err (record { cause = r; tag = tag })
+answered tag x (Some r) = Err (refused r tag)

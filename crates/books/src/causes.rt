@@ -1,6 +1,6 @@
 // Why an edit or a look is refused.
 ghost use Rattle.std.specs.Prelude.{◌≡◌};
-ghost use Rattle.books.specs.Causes.{refusal_number};
+ghost use Rattle.books.specs.Causes.{refusal_number, refused};
 
 /// Why a book refuses a call.
 #[derive(Clone, Copy, PartialEq, Eq, Debug)]
@@ -22,6 +22,13 @@ impl Refusal {
         ensures { result ≡ refusal_number self }
     {
         self as u8
+    }
+
+    /// This refusal with the tag that was to be grown, struck or looked at.
+    pub fn of_tag(self, tag: u32) -> Refused
+        ensures { result ≡ refused self tag }
+    {
+        Refused { cause: self, tag }
     }
 }
 

@@ -43,16 +43,14 @@ pub struct Entry<K> {
     pub answer: Answer,
 }
 
-impl<K: Copy> Entry<K> {
-    /// The number of the answer: 0 for accepted, else the number of the refusal; 255, which is no number of a refusal, where there
-    /// is none yet. (Numbers, since reports and tables are written in them.)
-    pub fn number(&self) -> u8
-        ensures { result ≡ answer_number self.now.answer }
-    {
-        match self.answer {
-            None => 255,
-            Some(Ok(())) => 0,
-            Some(Err(refused)) => refused.cause.number(),
-        }
+/// The number of an answer: 0 for accepted, else the number of the refusal; 255, which is no number of a refusal, where there is
+/// none yet. (Numbers, since reports and tables are written in them.)
+pub fn answer_number(answer: Answer) -> u8
+    ensures { result ≡ answer_number answer }
+{
+    match answer {
+        None => 255,
+        Some(Ok(())) => 0,
+        Some(Err(refused)) => refused.cause.number(),
     }
 }

@@ -43,6 +43,8 @@ pub trait Book {
     fn look(&self, tag: u32) -> Result<State<Self::Kind>, Refused>
         ensures { result ≡ answered tag (state self.now tag) (first_cause (look_causes (extent self.now) tag)) };
 
+    // What growing and striking say of the size and of what is left alone is a short line each; one word for both would hide it.
+
     /// Grows a tag: it stands by this spur. Refused, it changes no state, and keeps what the book says. The spur is lent: a
     /// method that takes a struct of figures by value has to repeat these clauses in every book.
     fn grow(&mut self, tag: u32, spur: &Spur<Self::Kind>) -> Result<(), Refused>

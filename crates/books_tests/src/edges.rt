@@ -1,5 +1,5 @@
 // The size of each book by the memory lent to it, and where each refusal of a growth begins.
-use books::{Book, Edit, Refused, Spur};
+use books::{Book, Edit, Spur, answer_number};
 use lengths::{KindM, Millimetres};
 use logs::LogBook;
 use std::process::Abort;
@@ -43,11 +43,6 @@ fn a_log_has_one_tag_more_than_pairs_of_entries_up_to_256(rt: HostRuntime) -> Re
     Ok(())
 }
 
-/// The number of a refusal, and 0 where there is none.
-fn number(answer: Result<(), Refused>) -> u8 {
-    answer.map_or_else(|refused| refused.cause.number(), |()| 0)
-}
-
 // tag, parent, run and drop of growths on a new book of five tags, each with its answer
 const GROWTHS: [(u32, u32, u64, u64, u8); 12] = [
     (2, 1, 1_000_000, 0, 0),
@@ -69,7 +64,8 @@ fn check_growths<B: Book<Kind = KindM>>(rt: &impl Abort, book: &mut B) {
     for (tag, parent, run, drop, answer) in GROWTHS {
         let run = Millimetres { value: run };
         let drop = Millimetres { value: drop };
-        assert!(rt; number(book.grow(tag, &Spur { parent, run, drop })) == answer);
+        let given = Some(book.grow(tag, &Spur { parent, run, drop }));
+        assert!(rt; answer_number(given) == answer);
     }
 }
 

@@ -3,7 +3,7 @@ ghost use Rattle.std.specs.Prelude.{◌≡◌, ◌++◌, string_bytes, OnOk};
 ghost use Rattle.report.specs.Lines.{fault_text};
 ghost use Rattle.columns.specs.Lines.{rows_text};
 
-use books::Entry;
+use books::{Entry, answer_number};
 use lengths::{KindC, KindM};
 use report::put_line;
 use slips::Fault;
@@ -18,7 +18,11 @@ pub(crate) fn put_rows(
     ensures { OnOk result (string_bytes text.new ≡ string_bytes text.old ++ rows_text 2 in_m.now in_c.now) }
 {
     for (i, (m, c)) in in_m.iter().zip(in_c).enumerate() {
-        put_line(text, i + 2, &[m.number(), c.number()])?;
+        put_line(
+            text,
+            i + 2,
+            &[answer_number(m.answer), answer_number(c.answer)],
+        )?;
     }
     Ok(())
 }

@@ -23,6 +23,7 @@ pub(crate) fn try_in_table(noted: &mut [Entry<KindM>])
 pub(crate) fn try_in_log(noted: &mut [Entry<KindC>])
     ensures { Tried kind_c_figures 256 (map (λ n. n.edit) noted.old) noted.new }
 {
+    // what fills memory that has no edit yet: a log opens on any content
     let mut entries = [Edit::<KindC>::Strike { tag: 0 }; 510];
     let mut book = LogBook::open(&mut entries);
     apply(&mut book, noted);

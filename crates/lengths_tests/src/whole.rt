@@ -2,6 +2,7 @@
 use crate::asked::{check_less, check_plus, check_sum};
 use lengths::{Couplings, Length, Millimetres, Whole};
 
+// two names for one type of figures, so that a test says which kind it speaks of
 fn mm(value: u64) -> Millimetres {
     Millimetres { value }
 }

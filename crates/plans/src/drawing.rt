@@ -8,7 +8,8 @@ use cells::Column;
 use lengths::Length;
 
 /// The tree of a loom: the state of each tag, as it was read out of the book. Tag 1 has the first place. Sizes go from 1 to 256,
-/// and every parent is smaller than its tag.
+/// and every parent is smaller than its tag. (The size stands beside the column, which always has 256 places: the passes go over the
+/// tags of the loom alone.)
 #[derive(Drop)]
 pub(crate) struct Drawing<K> {
     pub(crate) size: usize,
@@ -53,6 +54,8 @@ impl<K: Length> Drawing<K> {
             State::Struck | State::Blank => None,
         }
     }
+
+    // Three readings of a spur: each has its own type, and says its own where there is none.
 
     /// The parent of a tag; 0 where it does not stand. (No Option: the states themselves give the root the parent 0.)
     pub(crate) fn parent_of(&self, tag: usize) -> usize

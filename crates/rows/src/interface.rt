@@ -14,7 +14,7 @@ pub trait Rows {
     // The rows, as a list.
     ghost rows: { Self → List (Row Self.Kind) };
 
-    /// The size of a book with these rows.
+    /// The size of a book with these rows. (Each kind of rows knows how many it has; `size_for` does the rest for all.)
     fn extent(&self) -> u32
         ensures { result ≡ extent_of (rows self.now) };
 

@@ -37,7 +37,7 @@ impl Cause {
 }
 
 /// A cause in a row: the field where it stands, from 1, or 0, and the byte of the line where that field begins.
-#[derive(Clone, Copy)]
+#[derive(Clone, Copy, PartialEq, Eq, Debug)]
 pub(crate) struct RowFault {
     pub cause: Cause,
     pub field: usize,

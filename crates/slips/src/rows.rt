@@ -25,7 +25,7 @@ pub struct Values {
 }
 
 /// A field of a row: a part of the slip, and the byte of the slip where it begins.
-#[derive(Clone, Copy)]
+#[derive(Clone, Copy, PartialEq, Eq, Debug)]
 pub struct Field<'a> {
     pub bytes: &'a [u8],
     pub place: usize,
@@ -33,7 +33,7 @@ pub struct Field<'a> {
 
 /// A row of a slip: its line, from 1, its six fields, and its values.
 // the fields have names and not numbers: a caller asks for one of them, as it does of the values
-#[derive(Clone, Copy)]
+#[derive(Clone, Copy, PartialEq, Eq, Debug)]
 pub struct Row<'a> {
     pub line: usize,
     pub letter: Field<'a>,
