@@ -65,6 +65,7 @@ impl Asked for KindC {
 pub(crate) fn waiting<K: Asked>(heap: Global, rows: &[Row<'_>]) -> Result<Vec<Entry<K>>, AllocError>
     ensures { IfOk result (λ v. v.items ≡ map (λ w. unanswered (K.Asked.asked w.values)) rows.now) }
 {
+    // an entry by its two fields, which say what a constructor's name would
     rows.iter()
         .map(|row| Entry {
             edit: K::edit(row.values),

@@ -1,4 +1,5 @@
 // What each book finds in memory that was used before, and what a log leaves of it.
+use crate::histories::edit;
 use books::{Book, Edit, Spur, State};
 use lengths::{KindM, Millimetres};
 use logs::LogBook;
@@ -20,10 +21,7 @@ fn on_the_root(run: u64) -> Spur<KindM> {
 
 /// The growth of a tag on the root.
 fn growth(tag: u32) -> Edit<KindM> {
-    Edit::Growth {
-        tag,
-        spur: on_the_root(7),
-    }
+    edit(tag, Some(1), Millimetres { value: 7 })
 }
 
 /// Whether an edit is the growth of this tag.

@@ -7,7 +7,7 @@ use tables::{Row, TableBook};
 use worked::worked_cases;
 
 /// The growth of a tag with no drop, or where there is no parent its strike.
-fn edit<K: Length>(tag: u32, parent: Option<u32>, run: K) -> Edit<K> {
+pub(crate) fn edit<K: Length>(tag: u32, parent: Option<u32>, run: K) -> Edit<K> {
     let Some(parent) = parent else {
         return Edit::Strike { tag };
     };

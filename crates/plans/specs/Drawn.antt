@@ -1,5 +1,6 @@
 -- A tree that was read out of a book.
-use Rattle.std.specs.Prelude.{◌≡◌, ℕ, ◌-◌, ◌<◌, ◌≤◌, Some, None, Option}
+use Rattle.std.specs.Prelude.{◌≡◌, ℕ, ◌-◌, ◌<◌, ◌≤◌, Bool, false, List, Some, None, Option, slice_index_or}
+use Rattle.trees.proofs.Trees.{side_by}
 use Rattle.lengths.specs.Figures.{Figures}
 use Rattle.books.specs.declared.states.Spur.{Spur}
 use Rattle.books.specs.declared.states.State.{State}
@@ -47,3 +48,7 @@ module _ {K : Type 0} where
   -- every parent is smaller than its tag
   abbrev pub Falling : (ℕ → State K) → Type 0
   Falling read = (t : ℕ) → 1 ≤ t → t ≤ 256 → parent_of (read t) < t
+
+  -- what is met on going up from a tag: the tag itself, and all that it hangs from
+  abbrev pub Climbed : (ℕ → State K) → ℕ → List Bool → Type 0
+  Climbed read from met = (t : ℕ) → 1 ≤ t → t ≤ 256 → slice_index_or met t false ≡ side_by (λ x. parent_of (read x)) from t from

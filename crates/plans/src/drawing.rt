@@ -1,7 +1,6 @@
 // The tree of a loom, as it was read out of its book.
 ghost use Rattle.std.specs.Prelude.{◌≡◌, ℕ, ◌<◌, ◌≤◌, false, slice_index_or};
-ghost use Rattle.plans.specs.Drawn.{spur_of, parent_of, run_of, drop_of, drawn, Shows, Falling};
-ghost use Rattle.trees.proofs.Trees.{side_by};
+ghost use Rattle.plans.specs.Drawn.{Climbed, spur_of, parent_of, run_of, drop_of, drawn, Shows, Falling};
 
 use books::{Book, Spur, State};
 use cells::Column;
@@ -84,7 +83,7 @@ impl<K: Length> Drawing<K> {
     /// The tags that are met on going up from a tag: it, and all that it hangs from.
     pub(crate) fn chain(&self, from: usize) -> [bool; 257]
         requires { from ≤ 256 }
-        ensures { (t : ℕ) → 1 ≤ t → t ≤ 256 → slice_index_or result t false ≡ side_by (λ x. parent_of (drawn self.now.states x)) from t from }
+        ensures { Climbed (drawn self.now.states) from result }
     {
         let mut met = [false; 257];
         let mut at = from;

@@ -1,7 +1,7 @@
 // Passes over a tree that give the distance of every point to a path.
 ghost use Rattle.std.specs.Prelude.{◌≡◌, ℕ, ◌≤◌, false, length, drop as after, slice_index_or};
-ghost use Rattle.trees.proofs.Trees.{Tree, side_by};
-ghost use Rattle.plans.specs.Drawn.{parent_of, run_of, drawn};
+ghost use Rattle.trees.proofs.Trees.{Tree};
+ghost use Rattle.plans.specs.Drawn.{Climbed, parent_of, run_of, drawn};
 ghost use Rattle.plans.specs.Passing.{Given, Common, Near, up_to};
 
 use crate::drawing::Drawing;
@@ -12,8 +12,8 @@ impl<K: Length> Drawing<K> {
     /// The two ways up from the ends of a path.
     pub(crate) fn sides(&self, first: usize, last: usize) -> Sides
         requires { (first ≤ 256) × (last ≤ 256) }
-        ensures first { (t : ℕ) → 1 ≤ t → t ≤ 256 → slice_index_or result.first t false ≡ side_by (λ x. parent_of (drawn self.now.states x)) first t first }
-        ensures last { (t : ℕ) → 1 ≤ t → t ≤ 256 → slice_index_or result.last t false ≡ side_by (λ x. parent_of (drawn self.now.states x)) last t last }
+        ensures first { Climbed (drawn self.now.states) first result.first }
+        ensures last { Climbed (drawn self.now.states) last result.last }
     {
         Sides {
             first: self.chain(first),

@@ -67,6 +67,14 @@ impl From<Letter> for u8 {
     }
 }
 
+impl From<Letter> for char {
+    ghost from_gives = { λ letter sign. sign ≡ letter_byte letter };
+
+    fn from(letter: Letter) -> char {
+        char::from(u8::from(letter))
+    }
+}
+
 impl Values {
     /// The values of a letter and five numbers, in the order of the fields.
     pub(crate) fn new(letter: Letter, five: [u32; 5]) -> Values

@@ -45,7 +45,7 @@ fn line_of(row: Values) -> ArrayString<LONGEST>
 {
     let mut line = ArrayString::new();
     let mut digits = Buffer::new();
-    line.push(char::from(u8::from(row.letter)));
+    line.push(char::from(row.letter));
     for n in row.numbers() {
         line.push(',');
         line.push_str(digits.format(n));
@@ -77,7 +77,7 @@ impl Row<'_> {
         ensures answer { MatchResult result (λ n. Written (letter_byte self.now.values.letter) (numbers self.now.values) out.old out.new n) (λ f. Unwritten (letter_byte self.now.values.letter) (numbers self.now.values) (length out.old) f × (out.new ≡ out.old)) }
         ensures same { (slip : List ℕ) → Handed slip (row_seen self.now) → SameBytes self.now slip result out.new }
     {
-        let letter = char::from(u8::from(self.values.letter));
+        let letter = char::from(self.values.letter);
         write_row(letter, self.values.numbers(), out)
     }
 }

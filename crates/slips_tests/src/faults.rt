@@ -11,30 +11,30 @@ use std::test::Fail;
 type Case = (&'static [u8], Cause, usize, u8);
 
 /// Checks the fault of a case in two slips: after the names line alone, and after the rows of the sample.
-fn check_case(rt: &impl Abort, heap: Global, case: &Case, note: &str) -> Result<(), Fail> {
+fn check_case(rt: &(impl Abort + Alloc<A = Global>), case: &Case, note: &str) -> Result<(), Fail> {
     let (line, cause, field, at) = *case;
-    let first = [NAMES_LINE, line].concat(heap)?;
+    let first = [NAMES_LINE, line].concat(rt.alloc())?;
     let fault = Fault {
         cause,
         line: 2,
         field,
         byte: NAMES_LINE.len() + usize::from(at),
     };
-    check_read(rt, heap, first.as_slice(), 0, Some(fault), note)?;
-    let later = [SAMPLE, line].concat(heap)?;
+    check_read(rt, first.as_slice(), 0, Some(fault), note)?;
+    let later = [SAMPLE, line].concat(rt.alloc())?;
     let fault = Fault {
         cause,
         line: 9,
         field,
         byte: SAMPLE.len() + usize::from(at),
     };
-    check_read(rt, heap, later.as_slice(), 7, Some(fault), note)
+    check_read(rt, later.as_slice(), 7, Some(fault), note)
 }
 
-fn check_cases(rt: &impl Abort, heap: Global, cases: &[Case]) -> Result<(), Fail> {
+fn check_cases(rt: &(impl Abort + Alloc<A = Global>), cases: &[Case]) -> Result<(), Fail> {
     for (i, case) in cases.iter().enumerate() {
-        let note = format!(in heap; "in case {i}")?;
-        check_case(rt, heap, case, note.as_str())?;
+        let note = format!(in rt.alloc(); "in case {i}")?;
+        check_case(rt, case, note.as_str())?;
     }
     Ok(())
 }
@@ -52,7 +52,7 @@ const WRONG_FIELDS: [Case; 7] = [
 
 #[test]
 fn a_row_has_six_fields(rt: HostRuntime) -> Result<(), Fail> {
-    check_cases(&rt, rt.alloc(), &WRONG_FIELDS)
+    check_cases(&rt, &WRONG_FIELDS)
 }
 
 const WRONG_LETTERS: [Case; 8] = [
@@ -69,7 +69,7 @@ const WRONG_LETTERS: [Case; 8] = [
 
 #[test]
 fn the_letter_is_g_or_s(rt: HostRuntime) -> Result<(), Fail> {
-    check_cases(&rt, rt.alloc(), &WRONG_LETTERS)
+    check_cases(&rt, &WRONG_LETTERS)
 }
 
 const WRONG_NUMBERS: [Case; 19] = [
@@ -109,7 +109,7 @@ const WRONG_NUMBERS: [Case; 19] = [
 
 #[test]
 fn a_number_is_written_in_one_way_up_to_a_million(rt: HostRuntime) -> Result<(), Fail> {
-    check_cases(&rt, rt.alloc(), &WRONG_NUMBERS)
+    check_cases(&rt, &WRONG_NUMBERS)
 }
 
 const WRONG_STRIKES: [Case; 8] = [
@@ -127,7 +127,7 @@ const WRONG_STRIKES: [Case; 8] = [
 
 #[test]
 fn a_strike_has_zeros_after_its_tag(rt: HostRuntime) -> Result<(), Fail> {
-    check_cases(&rt, rt.alloc(), &WRONG_STRIKES)
+    check_cases(&rt, &WRONG_STRIKES)
 }
 
 const UNENDED: [Case; 5] = [
@@ -142,5 +142,5 @@ const UNENDED: [Case; 5] = [
 
 #[test]
 fn a_row_ends_with_a_newline(rt: HostRuntime) -> Result<(), Fail> {
-    check_cases(&rt, rt.alloc(), &UNENDED)
+    check_cases(&rt, &UNENDED)
 }

@@ -7,14 +7,13 @@ use std::test::Fail;
 
 /// Checks how many rows a slip has before its end or its first fault, and that fault; the note says where it failed.
 pub(crate) fn check_read(
-    rt: &impl Abort,
-    heap: Global,
+    rt: &(impl Abort + Alloc<A = Global>),
     slip: &[u8],
     rows: usize,
     fault: Option<Fault>,
     note: &str,
 ) -> Result<(), Fail> {
-    let contents = read_slip(heap, slip)?;
+    let contents = read_slip(rt.alloc(), slip)?;
     assert_eq!(rt; contents.rows.len(), rows, "{note}");
     assert_eq!(rt; contents.fault, fault, "{note}");
     Ok(())
@@ -29,8 +28,8 @@ const EDGES: &[u8] = b"edit,tag,parent,couplings,run,drop\n\
 
 #[test]
 fn a_slip_may_hold_any_rows_or_none(rt: HostRuntime) -> Result<(), Fail> {
-    check_read(&rt, rt.alloc(), NAMES_LINE, 0, None, "the names line alone")?;
-    check_read(&rt, rt.alloc(), EDGES, 4, None, "the edges of each field")
+    check_read(&rt, NAMES_LINE, 0, None, "the names line alone")?;
+    check_read(&rt, EDGES, 4, None, "the edges of each field")
 }
 
 /// Slips that are at fault before their first row.
@@ -57,7 +56,7 @@ fn the_first_line_is_the_names(rt: HostRuntime) -> Result<(), Fail> {
             byte: 0,
         };
         let note = format!(in rt.alloc(); "in case {i}")?;
-        check_read(&rt, rt.alloc(), *slip, 0, Some(fault), note.as_str())?;
+        check_read(&rt, *slip, 0, Some(fault), note.as_str())?;
     }
     Ok(())
 }
@@ -76,14 +75,7 @@ fn long_slip(heap: Global, last: &[u8]) -> Result<Vec<u8>, AllocError> {
 fn a_slip_has_at_most_65536_bytes(rt: HostRuntime) -> Result<(), Fail> {
     let longest = long_slip(rt.alloc(), b"G,100000,0,0,0,0\n")?;
     assert_eq!(rt; longest.len(), 65_536);
-    check_read(
-        &rt,
-        rt.alloc(),
-        longest.as_slice(),
-        5458,
-        None,
-        "the longest slip",
-    )?;
+    check_read(&rt, longest.as_slice(), 5458, None, "the longest slip")?;
     let too_long = long_slip(rt.alloc(), b"G,1000000,0,0,0,0\n")?;
     assert_eq!(rt; too_long.len(), 65_537);
     let fault = Fault {
@@ -94,7 +86,6 @@ fn a_slip_has_at_most_65536_bytes(rt: HostRuntime) -> Result<(), Fail> {
     };
     check_read(
         &rt,
-        rt.alloc(),
         too_long.as_slice(),
         0,
         Some(fault),
@@ -104,7 +95,6 @@ fn a_slip_has_at_most_65536_bytes(rt: HostRuntime) -> Result<(), Fail> {
     let unended = vec![in rt.alloc(); b'g'; 65_537]?;
     check_read(
         &rt,
-        rt.alloc(),
         unended.as_slice(),
         0,
         Some(fault),

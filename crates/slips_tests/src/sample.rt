@@ -61,7 +61,7 @@ fn a_field_is_a_part_of_the_slip(rt: HostRuntime) -> Result<(), Fail> {
 /// Writes a row at the end of a slip.
 fn append(rt: &impl Abort, slip: &mut Vec<u8>, row: Row<'_>) -> Result<(), Fail> {
     let mut line = [0u8; 42];
-    let letter = char::from(u8::from(row.values.letter));
+    let letter = char::from(row.values.letter);
     let len = write_row(letter, row.values.numbers(), &mut line)?;
     assert!(rt; len <= 42);
     slip.extend_from_slice(&line[0..len])?;

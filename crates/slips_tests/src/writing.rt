@@ -43,15 +43,19 @@ impl Asked<'_> {
     }
 
     /// Checks that the line is read back as this row.
-    fn check_read_back(&self, rt: &impl Abort, heap: Global, line: &[u8]) -> Result<(), Fail> {
+    fn check_read_back(
+        &self,
+        rt: &(impl Abort + Alloc<A = Global>),
+        line: &[u8],
+    ) -> Result<(), Fail> {
         let note = self.note;
-        let slip = [NAMES_LINE, line].concat(heap)?;
-        let contents = read_slip(heap, slip.as_slice())?;
+        let slip = [NAMES_LINE, line].concat(rt.alloc())?;
+        let contents = read_slip(rt.alloc(), slip.as_slice())?;
         assert!(rt; contents.fault.is_none(), "{note}");
         assert_eq!(rt; contents.rows.len(), 1, "{note}");
         for row in &contents.rows {
             assert_eq!(rt;
-                char::from(u8::from(row.values.letter)),
+                char::from(row.values.letter),
                 self.letter,
                 "{note}"
             );
@@ -61,14 +65,14 @@ impl Asked<'_> {
     }
 
     /// Checks that the row is written as this line where the line has room, and that the line is read back as the row.
-    fn check_line(&self, rt: &impl Abort, heap: Global, line: &[u8]) -> Result<(), Fail> {
+    fn check_line(&self, rt: &(impl Abort + Alloc<A = Global>), line: &[u8]) -> Result<(), Fail> {
         let note = self.note;
         let len = line.len();
         assert!(rt; 1 <= len, "{note}");
         self.check_refused(rt, len - 1, WriteFault::ShortBuffer);
         self.check_written(rt, len, line);
         self.check_written(rt, 50, line);
-        self.check_read_back(rt, heap, line)
+        self.check_read_back(rt, line)
     }
 }
 
@@ -99,7 +103,7 @@ fn a_row_is_written_and_read_back(rt: HostRuntime) -> Result<(), Fail> {
             numbers: *numbers,
             note: note.as_str(),
         };
-        asked.check_line(&rt, rt.alloc(), *line)?;
+        asked.check_line(&rt, *line)?;
     }
     Ok(())
 }
