@@ -54,11 +54,7 @@ impl Asked<'_> {
         assert!(rt; contents.fault.is_none(), "{note}");
         assert_eq!(rt; contents.rows.len(), 1, "{note}");
         for row in &contents.rows {
-            assert_eq!(rt;
-                char::from(row.values.letter),
-                self.letter,
-                "{note}"
-            );
+            assert_eq!(rt; char::from(row.values.letter), self.letter, "{note}");
             assert_eq!(rt; row.values.numbers(), self.numbers, "{note}");
         }
         Ok(())
