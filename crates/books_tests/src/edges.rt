@@ -36,6 +36,7 @@ const ENTRIES: [(usize, u32); 7] = [
 #[test]
 fn a_log_has_one_tag_more_than_pairs_of_entries_up_to_256(rt: HostRuntime) -> Result<(), Fail> {
     for (entries, size) in ENTRIES {
+        // an edit fills memory that holds none yet: a log opens on any content
         let mut entries = vec![in rt.alloc(); Edit::<KindM>::Strike { tag: 2 }; entries]?;
         let book = LogBook::open(entries.as_mut_slice());
         assert!(rt; ends_at(&book, size));
@@ -43,7 +44,8 @@ fn a_log_has_one_tag_more_than_pairs_of_entries_up_to_256(rt: HostRuntime) -> Re
     Ok(())
 }
 
-// tag, parent, run and drop of growths on a new book of five tags, each with its answer
+// tag, parent, run and drop of growths on a new book of five tags, each with its answer: 0, or its number in docs/refusals.md, as
+// whoever reads a report finds it
 const GROWTHS: [(u32, u32, u64, u64, u8); 12] = [
     (2, 1, 1_000_000, 0, 0),
     (3, 1, 1, 1_000_000, 0),

@@ -4,7 +4,7 @@ ghost use Rattle.cells.specs.Fours.{of_four};
 
 use crate::interface::Cells;
 
-/// One place.
+/// One place. (Not a `Four` of one part: what is nested must end at an item, and this is where it does.)
 #[derive(Clone, Copy)]
 pub struct One<T> {
     item: T,
@@ -72,6 +72,7 @@ impl<C: Cells> Cells for Four<C> {
 
     fn put(&mut self, index: usize, item: C::Item) {
         let inner = index / 4;
+        // the match of `get` once more: a part lent to be read and one lent to be written are two borrows, with a match each
         match index % 4 {
             0 => self.a.put(inner, item),
             1 => self.b.put(inner, item),

@@ -2,7 +2,7 @@
 ghost use Rattle.std.specs.Prelude.{◌≡◌, map, IfOk};
 ghost use Rattle.books.specs.declared.edits.Edit.{Edit as AnEdit};
 ghost use Rattle.slips.specs.declared.rows.Values.{Values as TheValues};
-ghost use Rattle.columns.specs.Asked.{edit_of, edit_m, edit_c, unanswered};
+ghost use Rattle.columns.specs.Asked.{by_letter, edit_m, edit_c, unanswered};
 
 use books::{Edit, Entry, Spur};
 use lengths::{KindC, Length, Millimetres, kind_c};
@@ -19,20 +19,12 @@ pub(crate) trait Asked: Length {
         ensures { result ≡ asked values };
 }
 
-/// The edit of a row, with its run and drop in some kind.
-fn edit_of<K: Length>(values: Values, run: K, drop: K) -> Edit<K>
-    ensures { result ≡ edit_of values run drop }
+/// The edit that a letter stands for: the growth of a tag by this spur, or its strike.
+fn by_letter<K: Length>(letter: Letter, tag: u32, spur: Spur<K>) -> Edit<K>
+    ensures { result ≡ by_letter letter tag spur }
 {
-    let tag = values.tag;
-    match values.letter {
-        Letter::Growth => Edit::Growth {
-            tag,
-            spur: Spur {
-                parent: values.parent,
-                run,
-                drop,
-            },
-        },
+    match letter {
+        Letter::Growth => Edit::Growth { tag, spur },
         Letter::Strike => Edit::Strike { tag },
     }
 }
@@ -41,13 +33,16 @@ impl Asked for Millimetres {
     ghost asked = { edit_m };
 
     fn edit(values: Values) -> Edit<Millimetres> {
-        let run = Millimetres {
-            value: u64::from(values.run),
+        let spur = Spur {
+            parent: values.parent,
+            run: Millimetres {
+                value: u64::from(values.run),
+            },
+            drop: Millimetres {
+                value: u64::from(values.drop),
+            },
         };
-        let drop = Millimetres {
-            value: u64::from(values.drop),
-        };
-        edit_of(values, run, drop)
+        by_letter(values.letter, values.tag, spur)
     }
 }
 
@@ -55,9 +50,12 @@ impl Asked for KindC {
     ghost asked = { edit_c };
 
     fn edit(values: Values) -> Edit<KindC> {
-        let run = kind_c(u64::from(values.couplings), u64::from(values.run));
-        let drop = kind_c(0, u64::from(values.drop));
-        edit_of(values, run, drop)
+        let spur = Spur {
+            parent: values.parent,
+            run: kind_c(u64::from(values.couplings), u64::from(values.run)),
+            drop: kind_c(0, u64::from(values.drop)),
+        };
+        by_letter(values.letter, values.tag, spur)
     }
 }
 

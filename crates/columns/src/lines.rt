@@ -17,6 +17,7 @@ pub(crate) fn put_rows(
 ) -> Result<(), AllocError>
     ensures { OnOk result (string_bytes text.new ≡ string_bytes text.old ++ rows_text 2 in_m.now in_c.now) }
 {
+    // no `try_for_each`: nothing is known of a text that a closure wrote to
     for (i, (m, c)) in in_m.iter().zip(in_c).enumerate() {
         put_line(
             text,

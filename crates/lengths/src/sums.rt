@@ -13,7 +13,7 @@ pub fn sum_of<L: Length>(xs: &[L]) -> L
     ensures entries { AllByRecursion (λ x. L.figures.entry x ≡ true) xs.now → Sum L.figures (length xs.now) result }
 {
     let mut all = L::zero();
-    // with `fold` the three clauses stayed open
+    // no `fold`: the three clauses stayed open with it
     for x in xs {
         all = all.plus(*x);
     }

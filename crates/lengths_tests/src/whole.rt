@@ -2,7 +2,8 @@
 use crate::asked::{check_less, check_plus, check_sum};
 use lengths::{Couplings, Length, Millimetres, Whole};
 
-// two names for one type of figures, so that a test says which kind it speaks of
+// One function for each kind, so that a test says of which it speaks; and a test for each, since each has edges of its own.
+
 fn mm(value: u64) -> Millimetres {
     Millimetres { value }
 }

@@ -17,7 +17,7 @@ fn extent_of<K>(entries: &[Edit<K>]) -> u32
 }
 
 impl<'a, K: Length> LogBook<'a, K> {
-    /// The rows that the edits kept come to. So each call costs steps by the number of edits kept.
+    /// The rows that the edits kept come to. So a look, a growth and a strike cost steps by the number of edits kept.
     fn replayed(&self) -> Replayed<'_, K>
         ensures { rows_by result.edits.now result.marks.items ≡ rows_of self.now.entries.now self.now.used }
     {

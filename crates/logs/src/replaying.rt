@@ -10,8 +10,8 @@ use books::{Edit, State};
 use lengths::Length;
 use rows::{Rows, size_for};
 
-/// The rows that edits come to, each kept as a mark: the index of the last edit of its tag, or none for a blank row. (Rows of
-/// their own would take memory by the kind.)
+/// The rows that edits come to, each kept as a mark: the index of the last edit of its tag, or none for a blank row. (Whole rows
+/// would be as large as the kind's figures are, and so of no fixed size.)
 #[derive(Drop)]
 pub(crate) struct Replayed<'e, K> {
     pub(crate) edits: &'e [Edit<K>],

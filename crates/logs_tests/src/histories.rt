@@ -24,8 +24,8 @@ fn number<B: Book>(book: &mut B, edit: Edit<B::Kind>) -> u8 {
     answer_number(Some(attempt(book, edit)))
 }
 
-// tag and parent of edits on a new book of six tags, a strike where there is no parent, each with its answer: a branch is struck
-// with all that hangs from it, and stays struck
+// tag and parent of edits on a new book of six tags, a strike where there is no parent, each with its answer (0, or its number in
+// docs/refusals.md, as whoever reads a report finds it): a branch is struck with all that hangs from it, and stays struck
 const HISTORY: [(u32, Option<u32>, u8); 10] = [
     (2, Some(1), 0),
     (4, Some(2), 0),
@@ -55,6 +55,7 @@ fn what_was_struck_stays_struck_in_a_table(rt: HostRuntime) {
 
 #[test]
 fn what_was_struck_stays_struck_in_a_log(rt: HostRuntime) {
+    // here and below an edit fills memory that holds none yet: a log opens on any content
     let mut entries = [Edit::<KindC>::Strike { tag: 2 }; 10];
     let mut book = LogBook::open(&mut entries);
     answers(&rt, &mut book, kind_c(1, 5));
@@ -102,6 +103,7 @@ fn a_list_of_edits_is_answered_one_after_another(rt: HostRuntime) {
     let mut entries = [Edit::Strike { tag: 2 }; 8];
     let mut book = LogBook::open(&mut entries);
     apply(&mut book, &mut noted);
+    // 0, or the number of a refusal, as in the history above
     let answers = [0, 0, 0, 6, 6, 8];
     for (noted, answer) in noted.iter().zip(answers.iter()) {
         assert!(rt; answer_number(noted.answer) == *answer);

@@ -54,7 +54,8 @@ impl<K: Length> Drawing<K> {
         }
     }
 
-    // Three readings of a spur: each has its own type, and says its own where there is none.
+    // Three readings of a spur, each one line over `spur_of`: what they share is in there, and one function for any part of a spur
+    // would be `map_or` again. (Nothing asks for a drop yet: no measure has been made.)
 
     /// The parent of a tag; 0 where it does not stand. (No Option: the states themselves give the root the parent 0.)
     pub(crate) fn parent_of(&self, tag: usize) -> usize
@@ -64,7 +65,7 @@ impl<K: Length> Drawing<K> {
         self.spur_of(tag).map_or(0, |spur| spur.parent as usize)
     }
 
-    /// The run of a tag; zero where it does not stand.
+    /// The run of a tag; zero where it does not stand. (No Option: the states themselves give the root the run zero.)
     pub(crate) fn run_of(&self, tag: usize) -> K
         requires { 1 ≤ tag }
         ensures { result ≡ run_of K.figures (drawn self.now.states tag) }
@@ -72,7 +73,7 @@ impl<K: Length> Drawing<K> {
         self.spur_of(tag).map_or(K::zero(), |spur| spur.run)
     }
 
-    /// The drop of a tag; zero where it does not stand.
+    /// The drop of a tag; zero where it does not stand. (No Option: the states themselves give the root the drop zero.)
     pub(crate) fn drop_of(&self, tag: usize) -> K
         requires { 1 ≤ tag }
         ensures { result ≡ drop_of K.figures (drawn self.now.states tag) }

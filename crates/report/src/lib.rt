@@ -34,7 +34,8 @@ fn put_fault(text: &mut String, fault: Option<Fault>) -> Result<(), AllocError>
     put_line(text, fault.line, &[fault.cause.number()])
 }
 
-/// The report of a slip (crate `columns` tells of its rows what both books answered): a heading, each row's line with 0, and where the slip has a fault, its line and number.
+/// The report of a slip: a heading, each row's line with 0, and where the slip has a fault, its line and number. (Crate `columns`
+/// tells of the rows what both books answered.)
 pub fn slip_report(heap: Global, slip: &[u8]) -> Result<String, AllocError>
     ensures answer { IfOk result (λ t. Reported slip.now (string_bytes t)) }
     ensures only { IfOk result (λ t. (other : List ℕ) → Reported slip.now other → other ≡ string_bytes t) }

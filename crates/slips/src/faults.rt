@@ -17,7 +17,8 @@ pub enum Cause {
 
 impl Cause {
     /// The number of this cause in the table of refusals. (A method, not a `From`: `fault.cause.number()` says which number it
-    /// is, and `u8::from(fault.cause)` does not.)
+    /// is, and `u8::from(fault.cause)` does not. `Refusal` of crate `books` has the other numbers of that table; one trait for the
+    /// two would need a crate of its own under both, for one line each.)
     pub fn number(self) -> u8
         ensures { result ≡ cause_number self }
     {
@@ -59,8 +60,8 @@ impl RowFault {
     }
 }
 
-/// A cause in a slip: the line, from 1, the field, and the byte of the slip where the field or the line begins.
-// that there is no field, or no line, is 0 by the rules: what is printed of a fault has the 0 too
+/// A cause in a slip: the line, from 1, the field, and the byte of the slip where the field or the line begins. (That there is no
+/// field, or no line, is 0 by the rules: what is printed of a fault has the 0 too.)
 #[derive(Clone, Copy, PartialEq, Eq, Debug)]
 pub struct Fault {
     pub cause: Cause,

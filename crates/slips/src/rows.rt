@@ -31,8 +31,8 @@ pub struct Field<'a> {
     pub place: usize,
 }
 
-/// A row of a slip: its line, from 1, its six fields, and its values.
-// the fields have names and not numbers: a caller asks for one of them, as it does of the values
+/// A row of a slip: its line, from 1, its six fields, and its values. (The fields have names and not numbers: a caller asks for
+/// one of them, as it does of the values.)
 #[derive(Clone, Copy, PartialEq, Eq, Debug)]
 pub struct Row<'a> {
     pub line: usize,

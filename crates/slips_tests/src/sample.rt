@@ -40,21 +40,21 @@ fn the_sample_has_seven_rows(rt: HostRuntime) -> Result<(), Fail> {
     Ok(())
 }
 
-fn check_field(rt: &impl Abort, field: Field<'_>, bytes: &[u8], place: usize) {
-    assert!(rt; field.bytes == bytes);
-    assert_eq!(rt; field.place, place);
+/// A field with these bytes, at this place of the slip.
+fn field(bytes: &[u8], place: usize) -> Field<'_> {
+    Field { bytes, place }
 }
 
 #[test]
 fn a_field_is_a_part_of_the_slip(rt: HostRuntime) -> Result<(), Fail> {
     let contents = read_slip(rt.alloc(), SAMPLE)?;
     let row = contents.rows.get(2).copied().ok_or("no third row")?;
-    check_field(&rt, row.letter, b"G", 64);
-    check_field(&rt, row.tag, b"4", 66);
-    check_field(&rt, row.parent, b"2", 68);
-    check_field(&rt, row.couplings, b"1", 70);
-    check_field(&rt, row.run, b"400", 72);
-    check_field(&rt, row.drop, b"100", 76);
+    assert_eq!(rt; row.letter, field(b"G", 64));
+    assert_eq!(rt; row.tag, field(b"4", 66));
+    assert_eq!(rt; row.parent, field(b"2", 68));
+    assert_eq!(rt; row.couplings, field(b"1", 70));
+    assert_eq!(rt; row.run, field(b"400", 72));
+    assert_eq!(rt; row.drop, field(b"100", 76));
     Ok(())
 }
 
