@@ -1,5 +1,5 @@
 -- The refusals of a book, with the numbers of docs/refusals.md, and the order in which each call checks.
-use Rattle.std.specs.Prelude.{ℕ, Bool, true, false, cond, not, ◌||◌, List, [], ◌∷◌, Some, None, Ok, Err, Option, Result, ◌==◌, nat_le, nat_lt}
+use Rattle.std.specs.Prelude.{ℕ, Bool, true, false, cond, not, ◌||◌, List, [], ◌∷◌, ◌++◌, Some, None, Ok, Err, Option, Result, ◌==◌, nat_le, nat_lt}
 use Rattle.lengths.specs.Figures.{Figures}
 use Rattle.books.specs.declared.causes.Refusal.{Refusal}
 use Rattle.books.specs.declared.causes.Refusal.TheVariants.{OutOfRange, BadParent, BadRun, BadDrop, TagStands, TagStruck, ParentBlank, ParentStruck, TagBlank}
@@ -29,20 +29,25 @@ abbrev pub first_cause : Table → Option Refusal
 first_cause [] = None
 first_cause (c ∷ cs) = cond c.0 (Some c.1) (first_cause cs)
 
--- growth, where the tag has the state at and the parent the state up: the tag is below 2 or above the size; the parent is 0
--- or not smaller than the tag; the run is zero or no entry; the drop is no entry; the tag stands; it is struck; the parent is
--- blank; it is struck
+-- a spur of a tag: the parent is 0 or not smaller than the tag; the run is zero or no entry; the drop is no entry
+abbrev pub spur_causes : {K : Type 0} → Figures K → ℕ → Spur K → Table
+spur_causes k tag s =
+    (s.parent == 0 || nat_le tag s.parent, BadParent)
+    ∷ ((not (k.less k.zero s.run) || not (k.entry s.run), BadRun)
+    ∷ ((not (k.entry s.drop), BadDrop)
+    ∷ []))
+
+-- growth, where the tag has the state at and the parent the state up: the tag is below 2 or above the size; the causes against
+-- its spur; the tag stands; it is struck; the parent is blank; it is struck
 abbrev pub growth_causes : {K : Type 0} → Figures K → ℕ → State K → State K → ℕ → Spur K → Table
 growth_causes k size at up tag s =
     (nat_lt tag 2 || nat_lt size tag, OutOfRange)
-    ∷ ((s.parent == 0 || nat_le tag s.parent, BadParent)
-    ∷ ((not (k.less k.zero s.run) || not (k.entry s.run), BadRun)
-    ∷ ((not (k.entry s.drop), BadDrop)
-    ∷ ((stands at, TagStands)
+    ∷ (spur_causes k tag s
+    ++ ((stands at, TagStands)
     ∷ ((is_struck at, TagStruck)
     ∷ ((is_blank up, ParentBlank)
     ∷ ((is_struck up, ParentStruck)
-    ∷ [])))))))
+    ∷ [])))))
 
 -- strike, where the tag has the state at: the tag is below 2 or above the size; it is blank; it is struck
 abbrev pub strike_causes : {K : Type 0} → ℕ → State K → ℕ → Table

@@ -43,8 +43,8 @@ pub struct Entry<K> {
     pub answer: Answer,
 }
 
-/// The number of an answer: 0 for accepted, else the number of the refusal; 255, which is no number of a refusal, where there is
-/// none yet. (Numbers, since reports and tables are written in them.)
+/// The number of an answer: 0 for accepted, else the number of the refusal. (Numbers, since reports and tables are written in them.
+/// An entry that has no answer yet has none there: 255, which is no number of a refusal, says so, and no report comes to print it.)
 pub fn answer_number(answer: Answer) -> u8
     ensures { result ≡ answer_number answer }
 {

@@ -1,10 +1,26 @@
 // The causes, checked in one place for every book: each answers the first cause that holds as its error.
 ghost use Rattle.std.specs.Prelude.{◌≡◌, not, ◌||◌};
-ghost use Rattle.books.specs.Causes.{checked, first_cause, growth_causes, strike_causes, look_causes};
+ghost use Rattle.books.specs.Causes.{checked, first_cause, spur_causes, growth_causes, strike_causes, look_causes};
 
 use crate::causes::Refusal;
 use crate::states::{Spur, State};
 use lengths::Length;
+
+/// The first cause against a spur of a tag, whatever states the tag and the parent have.
+pub fn spur_cause<K: Length>(tag: u32, spur: &Spur<K>) -> Result<(), Refusal>
+    ensures { result ≡ checked (first_cause (spur_causes K.figures tag spur.now)) }
+{
+    if !(1..tag).contains(&spur.parent) {
+        return Err(Refusal::BadParent);
+    }
+    if spur.run <= K::zero() || !spur.run.is_entry() {
+        return Err(Refusal::BadRun);
+    }
+    if !spur.drop.is_entry() {
+        return Err(Refusal::BadDrop);
+    }
+    Ok(())
+}
 
 /// The first cause against a growth, where the tag has the state `at` and its parent the state `up`.
 pub fn growth_cause<K: Length>(
@@ -19,15 +35,7 @@ pub fn growth_cause<K: Length>(
     if !(2..=size).contains(&tag) {
         return Err(Refusal::OutOfRange);
     }
-    if !(1..tag).contains(&spur.parent) {
-        return Err(Refusal::BadParent);
-    }
-    if spur.run <= K::zero() || !spur.run.is_entry() {
-        return Err(Refusal::BadRun);
-    }
-    if !spur.drop.is_entry() {
-        return Err(Refusal::BadDrop);
-    }
+    spur_cause(tag, spur)?;
     match (at, up) {
         (State::Standing(_), _) => Err(Refusal::TagStands),
         (State::Struck, _) => Err(Refusal::TagStruck),

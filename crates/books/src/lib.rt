@@ -13,5 +13,5 @@ pub use applying::{apply, attempt};
 pub use causes::{Refusal, Refused};
 pub use edits::{Answer, Edit, Entry, answer_number};
 pub use interface::Book;
-pub use judging::{growth_cause, look_cause, strike_cause};
+pub use judging::{growth_cause, look_cause, spur_cause, strike_cause};
 pub use states::{Spur, State};

@@ -2,7 +2,7 @@
 ghost use Rattle.std.specs.Prelude.{◌≡◌};
 ghost use Rattle.books.specs.States.{stands};
 
-/// A spur: how a point hangs on the loom: from which parent, by which run, and with which drop.
+/// A spur says how a point hangs on the loom: from which parent, by which run, and with which drop.
 #[derive(Clone, Copy, PartialEq, Eq, Debug)]
 pub struct Spur<K> {
     pub parent: u32,

@@ -36,7 +36,7 @@ const ENTRIES: [(usize, u32); 7] = [
 #[test]
 fn a_log_has_one_tag_more_than_pairs_of_entries_up_to_256(rt: HostRuntime) -> Result<(), Fail> {
     for (entries, size) in ENTRIES {
-        // an edit fills memory that holds none yet: a log opens on any content
+        // here and below an edit fills memory that holds none yet: a log opens on any content
         let mut entries = vec![in rt.alloc(); Edit::<KindM>::Strike { tag: 2 }; entries]?;
         let book = LogBook::open(entries.as_mut_slice());
         assert!(rt; ends_at(&book, size));

@@ -3,5 +3,3 @@
 
 #[cfg(test)]
 mod edges;
-#[cfg(test)]
-mod histories;

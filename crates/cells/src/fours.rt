@@ -10,7 +10,7 @@ pub struct One<T> {
     item: T,
 }
 
-/// Four times as many places: the last of the four by the remainder of the number.
+/// Four times as many places as a part has: the remainder of a number by 4 says which part, and the quotient which place in it.
 #[derive(Clone, Copy)]
 pub struct Four<C> {
     a: C,

@@ -60,12 +60,12 @@ impl<'e, K: Length> Rows for Replayed<'e, K> {
     }
 
     fn row(&self, index: usize) -> State<K> {
+        // no `flatten` of the two Options: it stayed open
         let Some(Some(last)) = self.marks.get(index) else {
             return State::Blank;
         };
-        let Some(edit) = self.edits.get(*last) else {
-            return State::Blank;
-        };
-        edit.written()
+        self.edits
+            .get(*last)
+            .map_or(State::Blank, |edit| edit.written())
     }
 }

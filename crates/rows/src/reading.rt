@@ -4,7 +4,7 @@ ghost use Rattle.rows.specs.Rows.{row_at, fit, state_of};
 
 use crate::interface::Rows;
 use crate::row::Row;
-use books::{Spur, State};
+use books::{Spur, State, spur_cause};
 use lengths::Length;
 
 /// The size of a book with this number of rows: one for each tag from 2 upward, of which a book uses 255.
@@ -25,10 +25,7 @@ pub fn row_at<K: Copy>(rows: &[Row<K>], index: usize) -> State<K>
 fn fits<K: Length>(tag: u32, spur: &Spur<K>) -> bool
     ensures { result ≡ fit K.figures tag spur.now }
 {
-    (1..tag).contains(&spur.parent)
-        && K::zero() < spur.run
-        && spur.run.is_entry()
-        && spur.drop.is_entry()
+    spur_cause(tag, spur).is_ok()
 }
 
 /// The state of a tag: what its row says, where the tag has one; a tag stands only while its parent stands. It goes up from

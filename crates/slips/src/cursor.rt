@@ -1,8 +1,8 @@
 // The reader of a slip: where it stands.
 ghost use Rattle.std.specs.Prelude.{◌+◌, ◌≤◌};
 
-/// A reader over a slip. It stands where the next line to read begins. (That the names have not been read is told by the line,
-/// which is 1 then and never again: no flag stands beside it.)
+/// A reader over a slip. It stands where the next line to read begins. (That no row was read yet is told by the line, which is
+/// 1 then and never again: no flag stands beside it. Until then each reading checks the names.)
 #[derive(Clone, Copy)]
 pub struct Reader<'a> {
     pub(crate) slip: &'a [u8],

@@ -9,7 +9,7 @@ use std::str;
 /// The greatest number of a row.
 pub(crate) const MOST: u32 = 1_000_000;
 
-/// The number that a field writes which has no sign in front, and no 0 in front of other digits: `parse` takes those.
+/// The number that a field writes. No sign may stand in front of it, and no 0 before other digits, since `parse` would take both.
 fn parsed(field: &[u8]) -> Option<u32>
     requires sign { slice_index field.now 0 ≢ 43 }
     requires zero { slice_index field.now 0 ≡ 48 → length field.now ≡ 1 }

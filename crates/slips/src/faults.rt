@@ -60,8 +60,8 @@ impl RowFault {
     }
 }
 
-/// A cause in a slip: the line, from 1, the field, and the byte of the slip where the field or the line begins. (That there is no
-/// field, or no line, is 0 by the rules: what is printed of a fault has the 0 too.)
+/// A cause in a slip: the line, from 1, the field, and the byte of the slip where the field or the line begins. (No field, or
+/// no line, is 0, as the table of refusals has it; a report prints the line, with the 0 too.)
 #[derive(Clone, Copy, PartialEq, Eq, Debug)]
 pub struct Fault {
     pub cause: Cause,

@@ -4,7 +4,7 @@ ghost use Rattle.slips.specs.Rules.{Free};
 ghost use Rattle.slips.specs.Inner.{count};
 
 /// What stands before the first `mark` of `s`, and what stands after it; nothing where there is no mark. (The library cuts text
-/// so, by `split_once`; it has nothing that cuts bytes so.)
+/// so, by `split_once`; of bytes it has `splitn`, an iterator whose two parts would be asked for one by one.)
 pub(crate) fn cut(s: &[u8], mark: u8) -> Option<(&[u8], &[u8])>
     ensures { MatchOption result (Free mark s.now) (λ p. (s.now ≡ p.0.now ++ mark ∷ p.1.now) × Free mark p.0.now) }
 {

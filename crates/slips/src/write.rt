@@ -55,7 +55,8 @@ fn line_of(row: Values) -> ArrayString<LONGEST>
 }
 
 /// Writes the row of a letter and five numbers, with its newline, at the front of `out`, and says how long it is. The
-/// bytes after it stay; a refusal writes nothing.
+/// bytes after it stay; a refusal writes nothing. (The letter is any char and not a `Letter`: to refuse a wrong one is what this is
+/// for; with a `Letter` its caller would have to.)
 pub fn write_row(letter: char, numbers: [u32; 5], out: &mut [u8]) -> Result<usize, WriteFault>
     ensures answer { MatchResult result (λ n. Written letter numbers out.old out.new n) (λ f. Unwritten letter numbers (length out.old) f × (out.new ≡ out.old)) }
     ensures back { IfOk result (λ n. ReadBack letter numbers (take n out.new)) }

@@ -1,5 +1,5 @@
 // The sample slip: seven rows and no fault.
-use slips::{Field, Letter, Row, read_slip, write_row};
+use slips::{Field, Letter, Row, read_slip};
 use std::process::Abort;
 use std::test::Fail;
 
@@ -61,8 +61,7 @@ fn a_field_is_a_part_of_the_slip(rt: HostRuntime) -> Result<(), Fail> {
 /// Writes a row at the end of a slip.
 fn append(rt: &impl Abort, slip: &mut Vec<u8>, row: Row<'_>) -> Result<(), Fail> {
     let mut line = [0u8; 42];
-    let letter = char::from(row.values.letter);
-    let len = write_row(letter, row.values.numbers(), &mut line)?;
+    let len = row.write(&mut line)?;
     assert!(rt; len <= 42);
     slip.extend_from_slice(&line[0..len])?;
     Ok(())

@@ -15,7 +15,7 @@ pub struct Case {
     pub number: u8,
 }
 
-/// The growth of a tag in kind M, without a drop. (Crate `books_tests` makes its own, as entries that have no answer yet.)
+/// The growth of a tag in kind M, without a drop. (Crate `logs_tests` makes its own, in any kind.)
 fn growth(tag: u32, parent: u32, run: u64) -> Edit<KindM>
     ensures { result ≡ growth_of tag parent run }
 {

@@ -1,3 +1,4 @@
+-- (the check does not find these by itself: tried without)
 use Rattle.std.proofs.Common.{◌≡◌, ◌+◌, [], ◌∷◌, ◌++◌, take, sym, ap, ◌∙◌, arith}
 use Rattle.std.proofs.lemmas.List.{take_more, take_all}
 use Rattle.lengths.specs.Figures.{added, none}

@@ -1,3 +1,4 @@
+-- (the check does not find these by itself: tried without)
 use Rattle.std.proofs.Common.{arith}
 use Rattle.lengths.specs.Figures.{Sum, one, both}
 use Rattle.lengths_tests.proofs.laws.adds_alike.Goals as goal

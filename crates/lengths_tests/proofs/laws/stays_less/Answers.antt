@@ -1,3 +1,4 @@
+-- (the check does not find these by itself: tried without)
 use Rattle.std.proofs.Common.{arith, rules}
 use Rattle.lengths.specs.Figures.{one}
 use Rattle.lengths_tests.proofs.laws.stays_less.Goals as goal

@@ -1,3 +1,4 @@
+-- (the check does not find these by itself: tried without)
 use Rattle.std.proofs.Common.{◌≡◌, ℕ, List, length, subst, rules, MatchResult}
 use Rattle.slips.specs.Format.{letter_byte, numbers}
 use Rattle.slips.specs.Writing.{Unwritten, Written}
