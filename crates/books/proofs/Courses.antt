@@ -106,9 +106,9 @@ pub tried_once : {K : Type 0} {k : Figures K} {size : ℕ} {edits : List (Edit K
 tried_once a b = (course_once a.course b.course (b.same ∙ sym a.same) (new_same a.new b.new)).0
 
 -- an edit more that was written, or was not, as it was answered
-pub wrote_more : {B K : Type 0} {w : B → Edit K → B → Type 0} {kept : B → B → Type 0} {ns : List (Entry K)} {a b c : B} (e : Edit K) (r : Result (Unit {0}) Refused)
-    → Wrote w kept a ns b → OnOk r (w b e c) → OnErr r (kept b c) → Wrote w kept a (ns ++ record { edit = e; answer = Some r } ∷ []) c
-wrote_more {B} {K} {w} {kept} {ns} {a} {b} {c} e (Ok u) (end q) f g = wrote refl (subst (λ (x : B). w x e c) q f) (end refl)
-wrote_more {B} {K} {w} {kept} {ns} {a} {b} {c} e (Err r) (end q) f g = idle (λ (p : ◌≡◌ {A = Option (Result (Unit {0}) Refused)} (Some (Err r)) (Some (Ok tt))). let z : ◌≡◌ {A = ℕ} 0 1 = cc in omega arith) (subst (λ (x : B). kept x c) q g) (end refl)
+pub wrote_more : {B K : Type 0} {w : B → Edit K → B → Type 0} {ns : List (Entry K)} {a b c : B} (e : Edit K) (r : Result (Unit {0}) Refused)
+    → Wrote w a ns b → OnOk r (w b e c) → OnErr r (c ≡ b) → Wrote w a (ns ++ record { edit = e; answer = Some r } ∷ []) c
+wrote_more {B} {K} {w} {ns} {a} {b} {c} e (Ok u) (end q) f g = wrote refl (subst (λ (x : B). w x e c) q f) (end refl)
+wrote_more e (Err r) (end q) f g = idle (λ (p : ◌≡◌ {A = Option (Result (Unit {0}) Refused)} (Some (Err r)) (Some (Ok tt))). let z : ◌≡◌ {A = ℕ} 0 1 = cc in omega arith) (end (g ∙ q))
 wrote_more e r (wrote y h w) f g = wrote y h (wrote_more e r w f g)
-wrote_more e r (idle y h w) f g = idle y h (wrote_more e r w f g)
+wrote_more e r (idle y w) f g = idle y (wrote_more e r w f g)

@@ -124,9 +124,9 @@ pub record Tried {K : Type 0} (k : Figures K) (size : ℕ) (edits : List (Edit K
   pub course : Course k size ns fresh left
   pub same : map (λ n. n.edit) ns ≡ edits
 
--- `Wrote w kept a ns b`, where w says what an accepted edit writes and kept what every other edit keeps: from the book a to the
--- book b each accepted edit of the list wrote so, one after another, and each of the others kept what is to be kept
-pub data Wrote {B K : Type 0} (w : B → Edit K → B → Type 0) (kept : B → B → Type 0) : B → List (Entry K) → B → Type 0 where
-  end : {a b : B} → b ≡ a → Wrote w kept a [] b
-  wrote : {n : Entry K} {ns : List (Entry K)} {a b c : B} → n.answer ≡ Some (Ok tt) → w a n.edit b → Wrote w kept b ns c → Wrote w kept a (n ∷ ns) c
-  idle : {n : Entry K} {ns : List (Entry K)} {a b c : B} → (n.answer ≢ Some (Ok tt)) → kept a b → Wrote w kept b ns c → Wrote w kept a (n ∷ ns) c
+-- `Wrote w a ns b`, where w says what an accepted edit writes: from the book a to the book b each accepted edit of the list wrote
+-- so, one after another, and the others changed nothing
+pub data Wrote {B K : Type 0} (w : B → Edit K → B → Type 0) : B → List (Entry K) → B → Type 0 where
+  end : {a b : B} → b ≡ a → Wrote w a [] b
+  wrote : {n : Entry K} {ns : List (Entry K)} {a b c : B} → n.answer ≡ Some (Ok tt) → w a n.edit b → Wrote w b ns c → Wrote w a (n ∷ ns) c
+  idle : {n : Entry K} {ns : List (Entry K)} {a b : B} → (n.answer ≢ Some (Ok tt)) → Wrote w a ns b → Wrote w a (n ∷ ns) b

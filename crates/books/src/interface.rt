@@ -30,9 +30,6 @@ pub trait Book {
     // What an accepted edit writes, from the book before it to the book after it. A book need not say it.
     ghost writes: { Self → AnEdit Self.Kind → Self → Type 0 } = { λ _ _ _. ⊤ };
 
-    // What a refused edit keeps besides the size and the states. A book need not say it.
-    ghost keeps: { Self → Self → Type 0 } = { λ _ _. ⊤ };
-
     /// The size. Every book is lawful, and where nothing was done, all that it leaves alone was left alone; it says so here.
     fn size(&self) -> u32
         ensures answer { result ≡ extent self.now }
@@ -45,22 +42,22 @@ pub trait Book {
 
     // What growing and striking say of the size and of what is left alone is a short line each; one word for both would hide it.
 
-    /// Grows a tag: it stands by this spur. Refused, it changes no state, and keeps what the book says. The spur is lent: a
-    /// method that takes a struct of figures by value has to repeat these clauses in every book.
+    /// Grows a tag: it stands by this spur. Refused, it changes nothing, the memory lent to it included. The spur is lent: a method
+    /// that takes a struct of figures by value has to repeat these clauses in every book.
     fn grow(&mut self, tag: u32, spur: &Spur<Self::Kind>) -> Result<(), Refused>
         ensures answer { result ≡ verdict Self.Kind.Length.figures (extent self.old) (state self.old) (Growth tag spur.now) }
         ensures size { extent self.new ≡ extent self.old }
         ensures states { MatchResult result (λ _. Grown (state self.old) (state self.new) tag (Standing spur.now)) (λ _. Same (state self.old) (state self.new)) }
         ensures writes { OnOk result (writes self.old (Growth tag spur.now) self.new) }
-        ensures refused { OnErr result (keeps self.old self.new) }
+        ensures refused { OnErr result (self.new ≡ self.old) }
         ensures leaves { (a : Self) → leaves a self.old → leaves a self.new };
 
-    /// Strikes a tag, with every tag that hangs from it. Refused, it changes no state, and keeps what the book says.
+    /// Strikes a tag, with every tag that hangs from it. Refused, it changes nothing, the memory lent to it included.
     fn strike(&mut self, tag: u32) -> Result<(), Refused>
         ensures answer { result ≡ verdict Self.Kind.Length.figures (extent self.old) (state self.old) (Strike tag) }
         ensures size { extent self.new ≡ extent self.old }
         ensures states { MatchResult result (λ _. StruckOut (state self.old) (state self.new) tag) (λ _. Same (state self.old) (state self.new)) }
         ensures writes { OnOk result (writes self.old (Strike tag) self.new) }
-        ensures refused { OnErr result (keeps self.old self.new) }
+        ensures refused { OnErr result (self.new ≡ self.old) }
         ensures leaves { (a : Self) → leaves a self.old → leaves a self.new };
 }

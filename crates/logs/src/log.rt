@@ -35,8 +35,6 @@ impl<'a, K: Length> Book for LogBook<'a, K> {
 
     ghost leaves = { λ a b. (b.entries.ghost_name ≡ a.entries.ghost_name) × Leaves a.entries.now a.used b.entries.now b.used };
 
-    ghost keeps = { λ a b. b ≡ a };
-
     ghost writes = { λ a e b. (b.entries.ghost_name ≡ a.entries.ghost_name) × Logs a.entries.now a.used e b.entries.now b.used × (Replays K.Length.figures a.entries.now a.used → Replays K.Length.figures b.entries.now b.used) };
 
     fn size(&self) -> u32 {

@@ -31,8 +31,6 @@ impl<'a, K: Length> Book for TableBook<'a, K> {
 
     ghost leaves = { λ a b. (b.rows.ghost_name ≡ a.rows.ghost_name) × (after 255 b.rows.now ≡ after 255 a.rows.now) };
 
-    ghost keeps = { λ a b. b ≡ a };
-
     ghost writes = { λ a e b. (b.rows.ghost_name ≡ a.rows.ghost_name) × (b.rows.now ≡ slice_set a.rows.now (tag_of e - 2) (row_of (written e))) };
 
     fn size(&self) -> u32 {

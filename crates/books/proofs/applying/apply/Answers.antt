@@ -29,7 +29,7 @@ loop-entry-preserved g c =
       course = subst (λ (es : List (Entry g.row.B-Kind.Denot)). Course k n es (g.B.Book.state c.args.book.now) t) (sym more)
           (course_more y c.loop-entry.invariant.course (ap Some answer) (subst (λ r. Done y.edit r s t) answer done.done));
       leaves = λ a h. done.leaves a (c.loop-entry.invariant.leaves a h);
-      wrote = subst (λ (es : List (Entry g.row.B-Kind.Denot)). Wrote g.B.Book.writes g.B.Book.keeps c.args.book.now es c.attempt-answer.new.book) (sym more)
+      wrote = subst (λ (es : List (Entry g.row.B-Kind.Denot)). Wrote g.B.Book.writes c.args.book.now es c.attempt-answer.new.book) (sym more)
           (wrote_more y.edit c.attempt-answer.result c.loop-entry.invariant.wrote done.writes done.refused);
     }
 
@@ -51,7 +51,7 @@ returns g c =
       called = λ h led. course_answered h course led;
       course = course;
       leaves = c.loop-entry.invariant.leaves;
-      wrote = subst (λ (es : List (Entry g.row.B-Kind.Denot)). Wrote g.B.Book.writes g.B.Book.keeps c.args.book.now es c.loop-entry.book) all c.loop-entry.invariant.wrote;
+      wrote = subst (λ (es : List (Entry g.row.B-Kind.Denot)). Wrote g.B.Book.writes c.args.book.now es c.loop-entry.book) all c.loop-entry.invariant.wrote;
       spent = course_less course;
       few = course_few course;
       agree = λ ns u v e same other. course_once course other e same;

@@ -11,5 +11,5 @@ invariant-loop-entry g l =
       size : g.B.Book.extent l.book ≡ n;
       course : Course k n (take l.entry-index l.entries) (g.B.Book.state l.initial.book) (g.B.Book.state l.book);
       leaves : (a : g.row.B.Denot) → g.B.Book.leaves a l.initial.book → g.B.Book.leaves a l.book;
-      wrote : Wrote g.B.Book.writes g.B.Book.keeps l.initial.book (take l.entry-index l.entries) l.book;
+      wrote : Wrote g.B.Book.writes l.initial.book (take l.entry-index l.entries) l.book;
     }
