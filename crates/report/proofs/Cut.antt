@@ -7,7 +7,7 @@ use Rattle.slips.specs.declared.rows.Values.{Values}
 use Rattle.slips.specs.Format.{most_bytes}
 use Rattle.slips.specs.Rules as rules
 use Rattle.slips.specs.Rules.{Holds}
-use Rattle.report.specs.Lines.{Tells}
+use Rattle.report.specs.Reports.{Reported}
 
 -- what is too long is so whatever follows
 long : (cut input : List ℕ) (vs : List Values) (o : Option Fault) → most_bytes < length cut → most_bytes < length input → Holds cut vs o → Holds input vs o
@@ -23,5 +23,14 @@ holds input vs o h =
       | inr few ↦ subst (λ (s : List ℕ). Holds s vs o) (take_all 65537 input (omega arith)) h
     ]
 
-pub cut_enough : (n : ℕ) (heading : List ℕ) (Told : List Values → List ℕ → Type 0) (input text : List ℕ) → Tells n heading Told (take 65537 input) text → Tells n heading Told input text
-cut_enough n heading Told input text t = record { rows = t.rows; fault = t.fault; body = t.body; holds = holds input t.rows t.fault t.holds; told = t.told; lines = t.lines }
+pub cut_enough : (input text : List ℕ) → Reported (take 65537 input) text → Reported input text
+cut_enough input text t = record {
+  rows = t.rows;
+  fault = t.fault;
+  holds = holds input t.rows t.fault t.holds;
+  in_m = t.in_m;
+  in_c = t.in_c;
+  tried_m = t.tried_m;
+  tried_c = t.tried_c;
+  lines = t.lines;
+}

@@ -1,1 +1,3 @@
+pub mod Asked
 pub mod Lines
+pub mod Reports

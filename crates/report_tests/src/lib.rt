@@ -1,5 +1,5 @@
-//! Tests of the crate `report`: the text that the program prints of a slip with a fault. The program itself is run on the
-//! sample slip, which has none.
+//! Tests of the crate `report`: the text that the program prints of slips, with and without a fault. The program itself is run on the
+//! sample slip.
 #![tactic(auto)]
 
 #[cfg(test)]

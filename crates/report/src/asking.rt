@@ -3,7 +3,7 @@ ghost use Rattle.std.specs.Prelude.{◌≡◌, map, IfOk};
 ghost use Rattle.slips.specs.declared.rows.Values.{Values as TheValues};
 ghost use Rattle.lengths.specs.Whole.{millimetres};
 ghost use Rattle.lengths.specs.Pairs.{figure_c};
-ghost use Rattle.columns.specs.Asked.{edit_of, unanswered};
+ghost use Rattle.report.specs.Asked.{edit_of, unanswered};
 
 use books::{Edit, Entry, Spur};
 use lengths::{KindC, Length, Millimetres, kind_c};

@@ -1,7 +1,7 @@
 -- The lines of the rows.
 use Rattle.std.proofs.Common.{◌≡◌, ℕ, List, [], ◌∷◌, length, refl, arith}
 use Rattle.books.specs.declared.edits.Entry.{Entry}
-use Rattle.columns.specs.Lines.{rows_text}
+use Rattle.report.specs.Lines.{rows_text}
 
 -- no row is left in one of the two lists: no line is left
 pub rows_none : {M C : Type 0} (l : ℕ) (ms : List (Entry M)) (cs : List (Entry C)) → length ms ≡ 0 → rows_text l ms cs ≡ []

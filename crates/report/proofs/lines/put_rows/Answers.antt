@@ -1,8 +1,8 @@
 use Rattle.std.proofs.Common.{◌≡◌, ◌+◌, [], ◌++◌, string_bytes, sym, ap, ◌∙◌, inl, inr}
 use Rattle.std.proofs.lemmas.List.{append-nil}
-use Rattle.columns.specs.Lines.{rows_text}
-use Rattle.columns.proofs.Texts.{rows_none, rows_end}
-use Rattle.columns.proofs.lines.put_rows.Goals as goal
+use Rattle.report.specs.Lines.{rows_text}
+use Rattle.report.proofs.Texts.{rows_none, rows_end}
+use Rattle.report.proofs.lines.put_rows.Goals as goal
 
 pub returns : goal.returns
 returns c =

@@ -1,6 +1,6 @@
 use Rattle.std.proofs.Common.{◌≡◌, ◌+◌, ◌++◌, string_bytes}
-use Rattle.columns.specs.Lines.{rows_text}
-use Rattle.columns.proofs.lines.put_rows.Given as goal
+use Rattle.report.specs.Lines.{rows_text}
+use Rattle.report.proofs.lines.put_rows.Given as goal
 
 -- the lines so far, and those of the rows that are left
 abbrev pub invariant-loop-i : goal.invariant-loop-i

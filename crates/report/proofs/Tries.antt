@@ -8,7 +8,7 @@ use Rattle.books.specs.Edits.{Tried}
 use Rattle.slips.specs.declared.rows.Row.{Row}
 use Rattle.slips.specs.declared.rows.Values.{Values}
 use Rattle.slips.specs.Seen.{values_in}
-use Rattle.columns.specs.Asked.{unanswered}
+use Rattle.report.specs.Asked.{unanswered}
 
 -- the edits of unanswered entries are those that the rows ask for
 asked_all : {K : Type 0} (f : Values → Edit K) (rows : List Row) → map (λ (x : Entry K). x.edit) (map (λ (w : Row). unanswered (f w.values)) rows) ≡ map f (values_in rows)
