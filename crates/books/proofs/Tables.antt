@@ -13,7 +13,7 @@ use Rattle.books.specs.Edits.{verdict}
 use Rattle.books.specs.States.{is_blank, is_struck, stands}
 
 -- no cause holds: not the first, and none after it
-none_first : (b : Bool) (r : Refusal) (o : Option Refusal) → cond b (Some r) o ≡ None → (b ≡ false) × (o ≡ None)
+pub none_first : {R : Type 0} (b : Bool) (r : R) (o : Option R) → cond b (Some r) o ≡ None → (b ≡ false) × (o ≡ None)
 none_first true r o e = let z : ◌≡◌ {A = ℕ} 0 1 = cc in absurd (omega arith)
 none_first false r o e = (refl, e)
 
@@ -39,7 +39,7 @@ blank_from Blank a b = refl
 blank_from Struck a b = let z : ◌≡◌ {A = ℕ} 0 1 = cc in absurd (omega arith)
 blank_from (Standing s) a b = let z : ◌≡◌ {A = ℕ} 0 1 = cc in absurd (omega arith)
 
-stands_from : {K : Type 0} (s : State K) → is_blank s ≡ false → is_struck s ≡ false → stands s ≡ true
+pub stands_from : {K : Type 0} (s : State K) → is_blank s ≡ false → is_struck s ≡ false → stands s ≡ true
 stands_from Blank a b = let z : ◌≡◌ {A = ℕ} 0 1 = cc in absurd (omega arith)
 stands_from Struck a b = let z : ◌≡◌ {A = ℕ} 0 1 = cc in absurd (omega arith)
 stands_from (Standing s) a b = refl

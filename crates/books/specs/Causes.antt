@@ -20,17 +20,18 @@ refusal_number ParentBlank = 7
 refusal_number ParentStruck = 8
 refusal_number TagBlank = 9
 
--- a table of causes (nothing to do with the table book), in the order in which they are checked: whether each holds, and the refusal that it is
-abbrev pub Table : Type 0
-Table = List (Bool × Refusal)
+-- a table of causes (nothing to do with the table book), in the order in which they are checked: whether each holds, and the
+-- refusal that it is
+abbrev pub Table : Type 0 → Type 0
+Table R = List (Bool × R)
 
 -- the first cause of a table that holds
-abbrev pub first_cause : Table → Option Refusal
+abbrev pub first_cause : {R : Type 0} → Table R → Option R
 first_cause [] = None
 first_cause (c ∷ cs) = cond c.0 (Some c.1) (first_cause cs)
 
 -- a spur of a tag: the parent is 0 or not smaller than the tag; the run is zero or no entry; the drop is no entry
-abbrev pub spur_causes : {K : Type 0} → Figures K → ℕ → Spur K → Table
+abbrev pub spur_causes : {K : Type 0} → Figures K → ℕ → Spur K → Table Refusal
 spur_causes k tag s =
     (s.parent == 0 || nat_le tag s.parent, BadParent)
     ∷ ((not (k.less k.zero s.run) || not (k.entry s.run), BadRun)
@@ -39,7 +40,7 @@ spur_causes k tag s =
 
 -- growth, where the tag has the state at and the parent the state up: the tag is below 2 or above the size; the causes against
 -- its spur; the tag stands; it is struck; the parent is blank; it is struck
-abbrev pub growth_causes : {K : Type 0} → Figures K → ℕ → State K → State K → ℕ → Spur K → Table
+abbrev pub growth_causes : {K : Type 0} → Figures K → ℕ → State K → State K → ℕ → Spur K → Table Refusal
 growth_causes k size at up tag s =
     (nat_lt tag 2 || nat_lt size tag, OutOfRange)
     ∷ (spur_causes k tag s
@@ -50,11 +51,11 @@ growth_causes k size at up tag s =
     ∷ [])))))
 
 -- strike, where the tag has the state at: the tag is below 2 or above the size; it is blank; it is struck
-abbrev pub strike_causes : {K : Type 0} → ℕ → State K → ℕ → Table
+abbrev pub strike_causes : {K : Type 0} → ℕ → State K → ℕ → Table Refusal
 strike_causes size at tag = (nat_lt tag 2 || nat_lt size tag, OutOfRange) ∷ ((is_blank at, TagBlank) ∷ ((is_struck at, TagStruck) ∷ []))
 
 -- look: the tag is below 1 or above the size
-abbrev pub look_causes : ℕ → ℕ → Table
+abbrev pub look_causes : ℕ → ℕ → Table Refusal
 look_causes size tag = (nat_lt tag 1 || nat_lt size tag, OutOfRange) ∷ []
 
 -- what a check of the causes answers: the first cause is its error

@@ -1,2 +1,2 @@
-pub mod Fours
+pub mod Twos
 pub mod Columns

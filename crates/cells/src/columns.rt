@@ -2,8 +2,8 @@
 ghost use Rattle.std.specs.Prelude.{◌≡◌, ℕ, ◌<◌, if◌then◌else◌, nat_eq};
 ghost use Rattle.cells.specs.Columns.{held};
 
-use crate::fours::Cells256;
 use crate::interface::Cells;
+use crate::twos::Cells256;
 
 /// 256 values, one for each number below 256.
 #[derive(Clone, Copy)]
@@ -22,8 +22,8 @@ impl<T: Copy> Column<T> {
     }
 
     /// The value at a number.
-    pub fn get(&self, index: usize) -> T
-        ensures { result ≡ held self.now index }
+    pub fn get(&self, index: usize) -> &T
+        ensures { result.now ≡ held self.now index }
     {
         self.cells.get(index)
     }

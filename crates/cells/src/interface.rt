@@ -18,8 +18,8 @@ pub trait Cells: Copy {
         ensures { (i : ℕ) → at result i ≡ item };
 
     /// What a place holds.
-    fn get(&self, index: usize) -> Self::Item
-        ensures { result ≡ at self.now index };
+    fn get(&self, index: usize) -> &Self::Item
+        ensures { result.now ≡ at self.now index };
 
     /// Puts a value into a place, and leaves the others.
     fn put(&mut self, index: usize, item: Self::Item)

@@ -5,10 +5,10 @@ use cells::Column;
 fn every_place_keeps_its_own_value(rt: HostRuntime) {
     let mut column: Column<u32> = Column::filled(7);
     for i in 0..256usize {
-        assert!(rt; column.get(i) == 7);
+        assert!(rt; *column.get(i) == 7);
         column.put(i, i as u32 * 3);
     }
     for i in 0..256usize {
-        assert!(rt; column.get(i) == i as u32 * 3);
+        assert!(rt; *column.get(i) == i as u32 * 3);
     }
 }

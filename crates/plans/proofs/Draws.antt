@@ -19,7 +19,7 @@ module _ {K : Type 0} where
       ((t : ℕ) → 1 ≤ t → t < n → read t ≡ state t) × ((t : ℕ) → 1 ≤ t → n ≤ t → t ≤ 256 → read t ≡ Blank)
 
   -- what does not stand has no parent
-  parent_none : (s : State K) → stands s ≡ false → parent_of s ≡ 0
+  pub parent_none : (s : State K) → stands s ≡ false → parent_of s ≡ 0
   parent_none Blank f = refl
   parent_none Struck f = refl
   parent_none (Standing s) f = cc

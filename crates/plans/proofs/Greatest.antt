@@ -33,7 +33,7 @@ module _ {F : Type 0} {k : Figures F} (laws : Laws k) (T : Tree k) where
       top = greatest_from laws T f 1 T.root T.high (T.to_high 1 T.root)
 
   -- the same figure of each point has the same greatest
-  greatest_same : (f g : ℕ → F) → ((y : ℕ) → Stands T y → f y ≡ g y) → greatest T f T.high ≡ greatest T g T.high
+  pub greatest_same : (f g : ℕ → F) → ((y : ℕ) → Stands T y → f y ≡ g y) → greatest T f T.high ≡ greatest T g T.high
   greatest_same f g h = same laws (half g f (λ y s. sym (h y s))) (half f g h)
     where
       half : (f g : ℕ → F) → ((y : ℕ) → Stands T y → f y ≡ g y) → AtMost k (greatest T f T.high) (greatest T g T.high)

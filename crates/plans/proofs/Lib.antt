@@ -5,8 +5,15 @@ pub mod WaysOnce
 pub mod WaysThere
 pub mod Greatest
 pub mod MeasuresAre
+pub mod Folds
+pub mod Search
+pub mod Centered
+pub mod Best
 pub mod PlansAre
 pub mod Draws
+pub mod Given
+pub mod Checks
+pub mod Told
 pub mod Chains
-pub mod Downward
-pub mod Upward
+pub mod ToRoot
+pub mod FromRoot

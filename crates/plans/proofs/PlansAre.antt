@@ -11,7 +11,7 @@ use Rattle.trees.proofs.Centers.{centers}
 use Rattle.trees.proofs.PathCenters.{path_centers}
 use Rattle.trees.proofs.Adds.{sum_over, sum_over_same}
 use Rattle.plans.specs.Ways.{Point, Joined as Linked, upward}
-use Rattle.plans.specs.Measures.{Reach}
+use Rattle.plans.specs.Measures.{On as Lies, Reach}
 use Rattle.plans.specs.Plans.{Hub, Spine, Before, Trunk}
 use Rattle.plans.proofs.Loom.{tree_of, drops, state_as, point_low}
 use Rattle.plans.specs.Drawn.{drop_at}
@@ -102,13 +102,17 @@ module _ {K : Type 0} {k : Figures K} {size : ℕ} {state : ℕ → State K} (la
     ordered = order;
     reach = reach_from laws lawful u v su sv;
     least = λ a b s sa sb h. subst (AtMost k (reach_of lawful u v)) (sym (reach_is laws lawful a b s sa sb h)) (center a b sa sb).0;
-    contained = λ a b sa sb h w on.
-        let e = sym (reach_is laws lawful a b (reach_of lawful u v) sa sb h) in
-        let at = on_is lawful u v w on in
-        on_from lawful a b w sa sb
-        (path_centers laws (tree_of lawful) (drop_at k state) (drops lawful laws) u v su sv center a b sa sb e w
-        (on_stands (tree_of lawful) w u v su sv at) at);
+    smallest = λ a b sa sb h within w on. holds a b sa sb h w on;
+    contained = holds;
   }
+    where
+      holds : (a b : ℕ) → Point state a → Point state b → Reach k state a b (reach_of lawful u v) → (w : ℕ) → Lies k state u v w → Lies k state a b w
+      holds a b sa sb h w on =
+          let e = sym (reach_is laws lawful a b (reach_of lawful u v) sa sb h) in
+          let at = on_is lawful u v w on in
+          on_from lawful a b w sa sb
+          (path_centers laws (tree_of lawful) (drop_at k state) (drops lawful laws) u v su sv center a b sa sb e w
+          (on_stands (tree_of lawful) w u v su sv at) at)
 
   -- the sum of the distances to a path is the same for its ends in the other order
   pub sum_turn : (a b : ℕ) → Point state a → Point state b → sum_to lawful a b ≡ sum_to lawful b a

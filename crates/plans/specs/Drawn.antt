@@ -1,10 +1,11 @@
--- A tree that was read out of a book.
+-- A tree that was read out of a book. No promise to a user stands here.
 use Rattle.std.specs.Prelude.{◌≡◌, ℕ, ◌-◌, ◌<◌, ◌≤◌, Bool, false, List, Some, None, Option, slice_index_or}
 use Rattle.trees.proofs.Trees.{side_by}
 use Rattle.lengths.specs.Figures.{Figures}
 use Rattle.books.specs.declared.states.Spur.{Spur}
 use Rattle.books.specs.declared.states.State.{State}
 use Rattle.books.specs.declared.states.State.TheVariants.{Blank, Struck, Standing}
+use Rattle.books.specs.States.{Lawful}
 use Rattle.cells.specs.declared.columns.Column.{Column}
 use Rattle.cells.specs.Columns.{held}
 
@@ -44,6 +45,11 @@ module _ {K : Type 0} where
   -- every tag was read as it is in the book
   abbrev pub Shows : (ℕ → State K) → (ℕ → State K) → Type 0
   Shows state read = (t : ℕ) → 1 ≤ t → t ≤ 256 → read t ≡ state t
+
+  -- the states that were read are those of a lawful book of this size
+  pub record Reads (k : Figures K) (size : ℕ) (state read : ℕ → State K) : Type 0 where
+    pub lawful : Lawful k size state
+    pub shows : Shows state read
 
   -- every parent is smaller than its tag
   abbrev pub Falling : (ℕ → State K) → Type 0

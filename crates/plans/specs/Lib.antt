@@ -3,3 +3,5 @@ pub mod Measures
 pub mod Plans
 pub mod Drawn
 pub mod Passing
+pub mod Checks
+pub mod Searching

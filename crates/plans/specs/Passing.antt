@@ -1,10 +1,13 @@
--- What the passes over a tree are given: the tree as it was read, and the two ways up from the ends of a path.
+-- What the passes over a tree are given: the tree as it was read, and the two ways up from the ends of a path. No promise to a user
+-- stands here.
 use Rattle.std.specs.Prelude.{◌≡◌, ℕ, ◌+◌, ◌-◌, ◌≤◌, Bool, true, false, cond, not, ◌&&◌, ◌||◌, List, ◌==◌, nat_lt, slice_index_or, slice_set}
 use Rattle.lengths.specs.Figures.{Figures}
 use Rattle.books.specs.declared.states.State.{State}
 use Rattle.trees.proofs.Trees.{Tree, Stands, Joined, side, selected, nearest}
 use Rattle.plans.specs.Drawn.{parent_of, run_of}
 use Rattle.plans.specs.declared.sides.Sides.{Sides}
+use Rattle.plans.specs.Ways.{Point}
+use Rattle.plans.specs.Measures.{Nearest}
 
 -- the tree T was read out as these states, and the two sides are the tags met on going up from a and from b
 pub record Given {K : Type 0} {k : Figures K} (T : Tree k) (a b size : ℕ) (read : ℕ → State K) (sides : Sides) : Type 0 where
@@ -27,8 +30,16 @@ module _ {K : Type 0} {k : Figures K} (T : Tree k) (a b : ℕ) where
   abbrev pub Near : List K → Type 0
   Near memory = (t : ℕ) → Stands T t → slice_index_or memory (t - 1) k.zero ≡ nearest T t a b
 
--- the memory after one tag of the pass upwards
+-- the memory after one tag of the pass from the root
 abbrev pub up_to : {K : Type 0} → Figures K → List K → ℕ → Bool → Bool → ℕ → K → List K
 up_to k memory parent first last tag run =
     cond (parent == 0) memory
     (cond (first && last) memory (cond (first || last) (slice_set memory (tag - 1) k.zero) (slice_set memory (tag - 1) (k.sum (slice_index_or memory (parent - 1) k.zero) run))))
+
+-- at each point the memory has its distance to the path with the ends a and b: tag 1 has the first place
+abbrev pub Distances : {K : Type 0} → Figures K → (ℕ → State K) → ℕ → ℕ → List K → Type 0
+Distances k state a b memory = (t : ℕ) → Point state t → Nearest k state a b t (slice_index_or memory (t - 1) k.zero)
+
+-- the larger of two figures
+abbrev pub larger_of : {K : Type 0} → Figures K → K → K → K
+larger_of k x y = cond (k.less x y) y x

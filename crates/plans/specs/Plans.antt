@@ -16,25 +16,27 @@ pub record Hub {K : Type 0} (k : Figures K) (state : ℕ → State K) (first las
   pub least : (t : ℕ) (s : K) → Point state t → Reach k state t t s → AtMost k r s
   pub all : (t : ℕ) → Point state t → Reach k state t t r → (t ≡ first) ⊎ (t ≡ last)
 
--- the spine (the path center): every other path has at least its reach r, and contains it where equal. So no smaller part of it
--- that is a path has its reach
+-- the spine (the path center): the path of least reach r of which no smaller part, still a path, has this reach. Every other path
+-- has at least its reach, and contains it where equal
 pub record Spine {K : Type 0} (k : Figures K) (state : ℕ → State K) (first last : ℕ) (r : K) : Type 0 where
   pub first_point : Point state first
   pub last_point : Point state last
   pub ordered : first ≤ last
   pub reach : Reach k state first last r
   pub least : (a b : ℕ) (s : K) → Point state a → Point state b → Reach k state a b s → AtMost k r s
+  pub smallest : (a b : ℕ) → Point state a → Point state b → Reach k state a b r → ((w : ℕ) → On k state a b w → On k state first last w)
+      → (w : ℕ) → On k state first last w → On k state a b w
   pub contained : (a b : ℕ) → Point state a → Point state b → Reach k state a b r → (w : ℕ) → On k state first last w → On k state a b w
 
--- of two paths with the same sum, the first comes before the second or is it, by the ties: the smaller length, then the smaller
--- first tag, then the smaller last tag
+-- of two paths with the same sum, the one of length l from a to b comes before that of length m from c to d, or is it, by the ties:
+-- the smaller length, then the smaller first tag, then the smaller last tag
 pub data Before {K : Type 0} (k : Figures K) (l : K) (a b : ℕ) (m : K) (c d : ℕ) : Type 0 where
   by_length : Less k l m → Before k l a b m c d
   by_first : l ≡ m → a < c → Before k l a b m c d
   by_last : l ≡ m → a ≡ c → b ≤ d → Before k l a b m c d
 
--- the trunk for a limit (the core of limited length): of the paths whose length is at most the limit, the one of least sum; s is
--- that sum
+-- the trunk for a limit (the l-core of a tree, where l is the limit): of the paths whose length is at most the limit, the one of
+-- least sum, and by the ties the first of these; s is that sum
 pub record Trunk {K : Type 0} (k : Figures K) (size : ℕ) (state : ℕ → State K) (limit : K) (first last : ℕ) (s : K) : Type 0 where
   pub first_point : Point state first
   pub last_point : Point state last

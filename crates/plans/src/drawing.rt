@@ -1,6 +1,7 @@
 // The tree of a loom, as it was read out of its book.
 ghost use Rattle.std.specs.Prelude.{◌≡◌, ℕ, ◌<◌, ◌≤◌, false, slice_index_or};
-ghost use Rattle.plans.specs.Drawn.{Climbed, spur_of, parent_of, run_of, drop_of, drawn, Shows, Falling};
+ghost use Rattle.books.specs.States.{stands};
+ghost use Rattle.plans.specs.Drawn.{Climbed, spur_of, parent_of, run_of, drop_of, drawn, Shows, Reads, Falling};
 
 use books::{Book, Spur, State};
 use cells::Column;
@@ -34,7 +35,7 @@ impl<K: Length> Drawing<K> {
     /// The tree of the loom that a book keeps.
     pub(crate) fn of<B: Book<Kind = K>>(book: &B) -> Drawing<K>
         ensures size { result.size ≡ B.Book.extent book.now }
-        ensures shows { Shows (B.Book.state book.now) (drawn result.states) }
+        ensures reads { Reads K.figures result.size (B.Book.state book.now) (drawn result.states) }
     {
         let size = book.size() as usize;
         let states = states_of(book);
@@ -43,19 +44,35 @@ impl<K: Length> Drawing<K> {
 
     // Tags are plain numbers from 1 on, as in a book; a type for them would be taken apart at each use.
 
+    /// The state of a tag.
+    pub(crate) fn state_of(&self, tag: usize) -> &State<K>
+        requires { 1 ≤ tag }
+        ensures { result.now ≡ drawn self.now.states tag }
+    {
+        self.states.get(tag - 1)
+    }
+
     /// The spur of a tag, where it stands.
     fn spur_of(&self, tag: usize) -> Option<Spur<K>>
         requires { 1 ≤ tag }
         ensures { result ≡ spur_of (drawn self.now.states tag) }
     {
-        match self.states.get(tag - 1) {
-            State::Standing(spur) => Some(spur),
+        match self.state_of(tag) {
+            State::Standing(spur) => Some(*spur),
             State::Struck | State::Blank => None,
         }
     }
 
+    /// Whether a tag stands.
+    pub(crate) fn is_point(&self, tag: usize) -> bool
+        requires { 1 ≤ tag }
+        ensures { result ≡ stands (drawn self.now.states tag) }
+    {
+        self.state_of(tag).is_standing()
+    }
+
     // Three readings of a spur, each one line over `spur_of`: what they share is in there, and one function for any part of a spur
-    // would be `map_or` again. (Nothing asks for a drop yet: no measure has been made.)
+    // would be `map_or` again.
 
     /// The parent of a tag; 0 where it does not stand. (No Option: the states themselves give the root the parent 0.)
     pub(crate) fn parent_of(&self, tag: usize) -> usize

@@ -1,8 +1,8 @@
 // The two ways up from the ends of a path.
 ghost use Rattle.std.specs.Prelude.{◌≡◌, ◌≤◌, false, ◌&&◌, slice_index_or};
 
-/// For each tag, whether it is met on going up from the first end of a path, and whether from the last one. These are two arrays
-/// and not one of pairs, since each is what one way up answers.
+/// For each tag, whether it is met on going up from the first end of a path, and whether from the last one: by tag, and the place 0
+/// is not used. These are two arrays and not one of pairs, since each is what one way up answers.
 #[derive(Drop)]
 pub(crate) struct Sides {
     pub(crate) first: [bool; 257],

@@ -6,7 +6,7 @@ use Rattle.lengths.specs.Figures.{Figures, Laws, Sum}
 use Rattle.trees.proofs.Trees.{Tree, Stands, Joined, side, parted, selected, climbed, distance, differ}
 use Rattle.trees.proofs.TwoSides.{differ_none, differ_turn}
 use Rattle.trees.proofs.Runs.{joined_above, up_stands, up_lower, later_joined}
-use Rattle.trees.proofs.Selected.{none_selected, same_selected, one_besides, selected_sum}
+use Rattle.trees.proofs.Selected.{none_selected, same_selected, one_besides, selected_few, selected_sum}
 use Rattle.trees.proofs.Sides.{side_self, side_above, side_past}
 
 module _ {F : Type 0} {k : Figures F} (laws : Laws k) (T : Tree k) where
@@ -57,7 +57,11 @@ module _ {F : Type 0} {k : Figures F} (laws : Laws k) (T : Tree k) where
   unfolding distance
   distance_by_cuts a b s t = climbs (a + b) a b (omega arith) s t
 
-  -- a distance is a sum of at most 257 entries
+  -- a distance is a sum of at most 255 entries
+  pub distance_few : (a b : ℕ) → Stands T a → Stands T b → Sum k 255 (distance T a b)
+  distance_few a b s t = rw (distance_by_cuts a b s t) (selected_few T (parted T a b))
+
+  -- and so of at most 257
   pub distance_sum : (a b : ℕ) → Stands T a → Stands T b → Sum k 257 (distance T a b)
   distance_sum a b s t = rw (distance_by_cuts a b s t) (selected_sum T (parted T a b))
 

@@ -6,7 +6,7 @@ use Rattle.lengths.specs.Figures.{Figures, Laws, Sum, AtMost}
 use Rattle.lengths.specs.Order.{irrefl, asym, same, le_trans}
 use Rattle.trees.proofs.Trees.{Tree, Stands, Joined, side, parted, off, Median, selected, distance, way, member, On, differ, majority, lesser, least, nearest}
 use Rattle.trees.proofs.TwoSides.{two_of_three, off_median, off_parts, differ_of}
-use Rattle.trees.proofs.Selected.{same_selected, more_selected, selected_sum}
+use Rattle.trees.proofs.Selected.{same_selected, more_selected, selected_few}
 use Rattle.trees.proofs.Medians.{medians}
 use Rattle.trees.proofs.Distances.{distance_by_cuts}
 use Rattle.trees.proofs.Ways.{way_by_cuts, on_stands, on_left}
@@ -96,9 +96,9 @@ module _ {F : Type 0} {k : Figures F} (laws : Laws k) (T : Tree k) where
   nearest_at_median x a b m u s t v sides =
       (median_on x a b m u s t v sides, median_at x a b m u s t v sides ∙ sym (nearest_by_cuts x a b u s t))
 
-  -- the distance to the nearest point of a way is a sum of at most 257 entries
-  pub nearest_sum : (x a b : ℕ) → Stands T x → Stands T a → Stands T b → Sum k 257 (nearest T x a b)
-  nearest_sum x a b u s t = rw (nearest_by_cuts x a b u s t) (selected_sum T (off T x a b))
+  -- the distance to the nearest point of a way is a sum of at most 255 entries
+  pub nearest_few : (x a b : ℕ) → Stands T x → Stands T a → Stands T b → Sum k 255 (nearest T x a b)
+  nearest_few x a b u s t = rw (nearest_by_cuts x a b u s t) (selected_few T (off T x a b))
 
   -- no point of the way is nearer
   pub nearest_least : (x a b w : ℕ) → Stands T x → Stands T a → Stands T b → On T w a b → AtMost k (nearest T x a b) (distance T x w)

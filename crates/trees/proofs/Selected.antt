@@ -1,6 +1,6 @@
 -- Sums of selected runs.
-use Rattle.std.proofs.Common.{◌≡◌, ℕ, zero, suc, ◌<◌, ◌≤◌, Bool, true, false, ◌&&◌, ◌||◌, eqb, ltb, ◌⊎◌, sym, refl, ◌∙◌, ap₂, inl, inr, arith}
-use Rattle.std.proofs.lemmas.Bool.{both_ways, and_parts, eqb-true, eq-eqb, ne_eqb, lt-ltb, le-ltb, cases_order, and_right, or_cases, false_from_ne_true}
+use Rattle.std.proofs.Common.{◌≡◌, ℕ, zero, suc, ◌-◌, ◌<◌, ◌≤◌, Bool, true, false, ◌&&◌, ◌||◌, eqb, ltb, ◌⊎◌, sym, refl, ◌∙◌, ap₂, inl, inr, arith}
+use Rattle.std.proofs.lemmas.Bool.{both_ways, and_parts, eqb-true, eq-eqb, ne_eqb, lt-ltb, le-ltb, cases_lt, cases_order, and_right, or_cases, false_from_ne_true}
 use Rattle.lengths.specs.Figures.{Figures, Laws, Sum, none, both, Less, AtMost}
 use Rattle.lengths.specs.Order.{irrefl, same, sum_more, lt_le_trans, neutral_left}
 use Rattle.trees.proofs.Trees.{Tree, joined, Joined, selected_below, selected}
@@ -18,10 +18,28 @@ module _ {F : Type 0} {k : Figures F} (T : Tree k) where
   selected_below_sum φ zero = none
   selected_below_sum φ (suc n) = both (omega arith) (selected_below_sum φ n) (taken φ n)
 
-  -- all runs that are selected are at most 257 entries
-  pub selected_sum : (φ : ℕ → Bool) → Sum k 257 (selected T φ)
+  -- no run is below 2
+  low_taken : (φ : ℕ → Bool) (n : ℕ) → n < 2 → Sum k 0 (pick k (joined T n && φ n) (T.run n))
+  unfolding joined
+  low_taken φ n h = rw (le-ltb 1 n (omega arith)) none
+
+  -- so the runs below n that are selected are at most two entries fewer than n
+  pub selected_below_few : (φ : ℕ → Bool) (n : ℕ) → Sum k (n - 2) (selected_below T φ n)
+  unfolding selected_below
+  selected_below_few φ zero = none
+  selected_below_few φ (suc n) = elim (cases_lt n 2) [
+    | inl l ↦ both (omega arith) (sum_more {m = n - 2} {n = 0} (omega arith) (selected_below_few φ n)) (low_taken φ n l)
+    | inr l ↦ both (omega arith) (selected_below_few φ n) (taken φ n)
+  ]
+
+  -- all runs that are selected are at most 255 entries
+  pub selected_few : (φ : ℕ → Bool) → Sum k 255 (selected T φ)
   unfolding selected
-  selected_sum φ = sum_more T.few (selected_below_sum φ T.high)
+  selected_few φ = sum_more (omega (arith, T.few)) (selected_below_few φ T.high)
+
+  -- and so at most 257
+  pub selected_sum : (φ : ℕ → Bool) → Sum k 257 (selected T φ)
+  selected_sum φ = sum_more (omega arith) (selected_few φ)
 
 module _ {F : Type 0} {k : Figures F} (laws : Laws k) (T : Tree k) where
   -- `more_selected`, of the runs below n

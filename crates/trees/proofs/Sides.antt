@@ -6,7 +6,7 @@ use Rattle.trees.proofs.Trees.{Tree, Stands, Joined, side_by, side}
 use Rattle.trees.proofs.Runs.{joined_stands, up_lower, later_joined}
 
 -- what follows a test counts only where the test is passed
-and_same : (b : Bool) {c d : Bool} → (b ≡ true → c ≡ d) → (b && c) ≡ (b && d)
+pub and_same : (b : Bool) {c d : Bool} → (b ≡ true → c ≡ d) → (b && c) ≡ (b && d)
 and_same b h = grind arith
 
 -- going up by P from the numbers of which S holds: from each above 1 to a smaller one of them

@@ -1,6 +1,0 @@
-use Rattle.plans.specs.Drawn.{drawn}
-use Rattle.plans.proofs.Downward.{Passed_to}
-use Rattle.plans.proofs.drawing.Drawing.pass_down.Given as goal
-
-abbrev pub invariant-loop-tag : goal.invariant-loop-tag
-invariant-loop-tag g l = Passed_to g.K.Length.figures l.self.size (drawn l.self.states) l.sides l.initial.memory l.memory l.beyond l.tag
