@@ -21,7 +21,7 @@ left_most Blank = omega arith
 left_most Struck = omega arith
 left_most (Standing s) = omega arith
 
-lefts_most : {K : Type 0} (f : ℕ → State K) (n : ℕ) → lefts f n ≤ 2 * n
+pub lefts_most : {K : Type 0} (f : ℕ → State K) (n : ℕ) → lefts f n ≤ 2 * n
 unfolding lefts
 lefts_most f zero = omega arith
 lefts_most f (suc n) = omega (arith, left_most (f (n + 2)), lefts_most f n)

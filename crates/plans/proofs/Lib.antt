@@ -9,6 +9,7 @@ pub mod Folds
 pub mod Search
 pub mod Centered
 pub mod Best
+pub mod Single
 pub mod PlansAre
 pub mod Draws
 pub mod Given

@@ -68,6 +68,7 @@ impl<K: Length> Drawing<K> {
 /// size, and the rest as it was.
 pub fn hub<B: Book>(book: &B, memory: &mut [B::Kind]) -> Result<Plan<B::Kind>, Denial>
     ensures answer { Answers (plan_causes (B.Book.extent book.now) (length memory.old)) (λ p. Hub B.Kind.Length.figures (B.Book.state book.now) p.first p.last p.figure) result }
+    ensures only { IfOk result (λ p. (first last : ℕ) (figure : B.Kind) → Hub B.Kind.Length.figures (B.Book.state book.now) first last figure → (first ≡ p.first) × (last ≡ p.last) × (figure ≡ p.figure)) }
     ensures bound { IfOk result (λ p. Sum B.Kind.Length.figures 256 p.figure) }
     ensures memory { Leaves B.Kind.Length.figures (B.Book.extent book.now) memory.old memory.new result }
 {
@@ -81,6 +82,7 @@ pub fn hub<B: Book>(book: &B, memory: &mut [B::Kind]) -> Result<Plan<B::Kind>, D
 /// is left as by `hub`.
 pub fn spine<B: Book>(book: &B, memory: &mut [B::Kind]) -> Result<Plan<B::Kind>, Denial>
     ensures answer { Answers (plan_causes (B.Book.extent book.now) (length memory.old)) (λ p. Spine B.Kind.Length.figures (B.Book.state book.now) p.first p.last p.figure) result }
+    ensures only { IfOk result (λ p. (first last : ℕ) (figure : B.Kind) → Spine B.Kind.Length.figures (B.Book.state book.now) first last figure → (first ≡ p.first) × (last ≡ p.last) × (figure ≡ p.figure)) }
     ensures bound { IfOk result (λ p. Sum B.Kind.Length.figures 256 p.figure) }
     ensures memory { Leaves B.Kind.Length.figures (B.Book.extent book.now) memory.old memory.new result }
 {
@@ -98,6 +100,7 @@ pub fn trunk<B: Book>(
     memory: &mut [B::Kind],
 ) -> Result<Plan<B::Kind>, Denial>
     ensures answer { Answers (plan_causes (B.Book.extent book.now) (length memory.old)) (λ p. Trunk B.Kind.Length.figures (B.Book.extent book.now) (B.Book.state book.now) limit p.first p.last p.figure) result }
+    ensures only { IfOk result (λ p. (first last : ℕ) (figure : B.Kind) → Trunk B.Kind.Length.figures (B.Book.extent book.now) (B.Book.state book.now) limit first last figure → (first ≡ p.first) × (last ≡ p.last) × (figure ≡ p.figure)) }
     ensures bound { IfOk result (λ p. Sum B.Kind.Length.figures 65280 p.figure) }
     ensures memory { Leaves B.Kind.Length.figures (B.Book.extent book.now) memory.old memory.new result }
 {

@@ -1,4 +1,5 @@
 use Rattle.plans.proofs.Checks.{planned_from}
+use Rattle.plans.proofs.Single.{spine_once}
 use Rattle.plans.proofs.Told.{reach_bound}
 use Rattle.plans.proofs.Best.{ends_low, spine_of}
 use Rattle.plans.proofs.planning.spine.Goals as goal
@@ -22,3 +23,10 @@ returns-clause-bound g c =
     let (same, fits, reads) = c.in_ok-drawing.ensures in
     let spine = spine_of g.met.B.Kind.Length.laws reads.lawful x (c.search-spine.ensures.foremost (g.B.Book.state c.args.book.now) reads) in
     rw (c.plan.ensures.2) (reach_bound g.met.B.Kind.Length.laws x.first x.last x.weight spine.reach (record { lawful = reads.lawful; first = spine.first_point; last = spine.last_point }))
+
+pub returns-clause-only : goal.returns-clause-only
+returns-clause-only g c =
+    let (same, fits, reads) = c.in_ok-drawing.ensures in
+    let laws = g.met.B.Kind.Length.laws in
+    let spine = spine_of laws reads.lawful c.search-spine.result (c.search-spine.ensures.foremost (g.B.Book.state c.args.book.now) reads) in
+    λ first last figure other. rw (c.plan.ensures.0, c.plan.ensures.1, c.plan.ensures.2) (spine_once laws reads.lawful spine other)

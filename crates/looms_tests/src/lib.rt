@@ -1,0 +1,7 @@
+//! Tests of the crate `looms`, through its public names alone.
+#![tactic(auto)]
+
+#[cfg(test)]
+mod lists;
+#[cfg(test)]
+mod stages;
