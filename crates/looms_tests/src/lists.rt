@@ -21,53 +21,54 @@ fn grow(tag: u32, parent: u32, run: u64, drop: u64) -> Call<KindM> {
     })
 }
 
-/// Checks the list of docs/looms.md on a new book of four tags, with more calls in it.
+/// A strike.
+fn strike(tag: u32) -> Call<KindM> {
+    Call::Edit(Edit::Strike { tag })
+}
+
+/// The list of docs/looms.md for a new book of four tags, with more calls in it, each with its answer.
+fn listed() -> [(Call<KindM>, Answer<KindM>); 15] {
+    let struck = Refusal::TagStruck.of_tag(4);
+    [
+        (grow(2, 1, 300, 50), Answer::Edited(Ok(()))),
+        (grow(4, 2, 400, 0), Answer::Edited(Ok(()))),
+        (Call::Hub, Answer::NotAllowed),
+        (Call::Reopen, Answer::NotAllowed),
+        (strike(2), Answer::Edited(Ok(()))),
+        (grow(4, 1, 400, 0), Answer::Edited(Err(struck))),
+        (Call::Count, Answer::Number(3)),
+        (Call::Release, Answer::Done),
+        (strike(3), Answer::NotAllowed),
+        (Call::Release, Answer::NotAllowed),
+        (Call::Size, Answer::Number(4)),
+        (Call::Look { tag: 4 }, Answer::Looked(Ok(State::Struck))),
+        (
+            Call::Distance { first: 1, last: 4 },
+            Answer::Measured(Err(Denial::NoPoint(struck))),
+        ),
+        (Call::Hub, Answer::Planned(plan(1, 1, 0))),
+        (
+            Call::Trunk { limit: mm(600) },
+            Answer::Planned(plan(1, 1, 0)),
+        ),
+    ]
+}
+
+/// Checks the list on a new book of four tags, and the loom that it leaves.
 fn check_list<B: Book<Kind = KindM> + Drop>(rt: &impl Abort, book: B) {
-    let mut notes = [
-        waiting(grow(2, 1, 300, 50)),
-        waiting(grow(4, 2, 400, 0)),
-        waiting(Call::Hub),
-        waiting(Call::Reopen),
-        waiting(Call::Edit(Edit::Strike { tag: 2 })),
-        waiting(grow(4, 1, 400, 0)),
-        waiting(Call::Count),
-        waiting(Call::Release),
-        waiting(Call::Edit(Edit::Strike { tag: 3 })),
-        waiting(Call::Release),
-        waiting(Call::Size),
-        waiting(Call::Look { tag: 4 }),
-        waiting(Call::Distance { first: 1, last: 4 }),
-        waiting(Call::Hub),
-        waiting(Call::Trunk { limit: mm(600) }),
-    ];
-    let answers = [
-        Answer::Edited(Ok(())),
-        Answer::Edited(Ok(())),
-        Answer::NotAllowed,
-        Answer::NotAllowed,
-        Answer::Edited(Ok(())),
-        Answer::Edited(Err(Refusal::TagStruck.of_tag(4))),
-        Answer::Number(3),
-        Answer::Done,
-        Answer::NotAllowed,
-        Answer::NotAllowed,
-        Answer::Number(4),
-        Answer::Looked(Ok(State::Struck)),
-        Answer::Measured(Err(Denial::NoPoint(Refusal::TagStruck.of_tag(4)))),
-        Answer::Planned(plan(1, 1, 0)),
-        Answer::Planned(plan(1, 1, 0)),
-    ];
+    let listed = listed();
+    let mut notes = listed.map(|(call, _)| waiting(call));
     let mut memory = [mm(9); 5];
     let loom = run(book, &mut notes, &mut memory);
-    for (note, answer) in notes.iter().zip(answers.iter()) {
+    for (note, (_, answer)) in notes.iter().zip(listed.iter()) {
         assert!(rt; note.answer == Some(*answer));
     }
     assert!(rt; memory == [mm(0), mm(0), mm(0), mm(0), mm(9)]);
     match loom {
         AnyLoom::Open(_) => assert!(rt; false),
-        AnyLoom::Released(loom) => assert!(rt;
-            loom.count() == 3 && loom.look(2) == Ok(State::Struck)
-        ),
+        AnyLoom::Released(loom) => {
+            assert!(rt; loom.count() == 3 && loom.look(2) == Ok(State::Struck));
+        }
     }
 }
 
