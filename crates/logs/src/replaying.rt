@@ -1,5 +1,5 @@
 // Replaying edits: the rows that they come to.
-ghost use Rattle.std.specs.Prelude.{◌≡◌, ◌≤◌, replicate};
+ghost use Rattle.std.specs.Prelude.{◌≡◌, ◌≤◌, length, replicate};
 ghost use Rattle.books.specs.declared.states.State.TheVariants.{Blank};
 ghost use Rattle.logs.specs.Logs.{replay};
 ghost use Rattle.logs.specs.Marks.{mark_one, rows_by};
@@ -11,15 +11,16 @@ use lengths::Length;
 use rows::{Rows, size_for};
 
 /// The rows that edits come to, each kept as a mark: the index of the last edit of its tag, or none for a blank row. (Whole rows
-/// would be as large as the kind's figures are, and so of no fixed size.)
+/// would be as large as the kind's figures are, and so of no fixed size. The marks are made anew at each call of a book, so an index
+/// has no more bits than the 510 edits that a book can accept need.)
 #[derive(Drop)]
 pub(crate) struct Replayed<'e, K> {
     pub(crate) edits: &'e [Edit<K>],
-    pub(crate) marks: ArrayVec<Option<usize>, 255>,
+    pub(crate) marks: ArrayVec<Option<u16>, 255>,
 }
 
 /// Marks the row of an edit's tag, if there is one.
-fn mark_one<K: Copy>(marks: &mut [Option<usize>], edit: Edit<K>, index: usize)
+fn mark_one<K: Copy>(marks: &mut [Option<u16>], edit: Edit<K>, index: u16)
     ensures { marks.new ≡ mark_one marks.old edit index }
 {
     let tag = edit.tag() as usize;
@@ -29,24 +30,29 @@ fn mark_one<K: Copy>(marks: &mut [Option<usize>], edit: Edit<K>, index: usize)
 }
 
 /// Replays edits, oldest first, into marks.
-fn mark<K: Copy>(marks: &mut [Option<usize>], edits: &[Edit<K>])
+fn mark<K: Copy>(marks: &mut [Option<u16>], edits: &[Edit<K>])
+    requires { length edits.now ≤ 510 }
     ensures { rows_by edits.now marks.new ≡ replay (rows_by edits.now marks.old) edits.now }
 {
     for (index, edit) in edits.iter().enumerate() {
-        mark_one(marks, *edit, index);
+        mark_one(marks, *edit, index as u16);
     }
 }
 
 impl<'e, K: Length> Replayed<'e, K> {
     /// Replays edits, oldest first, on so many blank rows.
     pub(crate) fn new(edits: &'e [Edit<K>], count: usize) -> Replayed<'e, K>
-        requires { count ≤ 255 }
+        requires count { count ≤ 255 }
+        requires few { length edits.now ≤ 510 }
         ensures { rows_by result.edits.now result.marks.items ≡ replay (replicate count (row_of Blank)) edits.entry.now }
     {
-        let mut marks = ArrayVec::from([None; 255]);
-        marks.truncate(count);
-        mark(marks.as_mut_slice(), edits);
-        Replayed { edits, marks }
+        let mut replayed = Replayed {
+            edits,
+            marks: ArrayVec::from([None; 255]),
+        };
+        replayed.marks.truncate(count);
+        mark(replayed.marks.as_mut_slice(), edits);
+        replayed
     }
 }
 
@@ -65,7 +71,7 @@ impl<'e, K: Length> Rows for Replayed<'e, K> {
             return State::Blank;
         };
         self.edits
-            .get(*last)
+            .get(usize::from(*last))
             .map_or(State::Blank, |edit| edit.written())
     }
 }

@@ -5,7 +5,7 @@ use Rattle.std.specs.Str.{all_ascii_digits, IsUtf8}
 use Rattle.std.specs.Str.Parse.{ParsesUnsigned, digits_value}
 use Rattle.std.proofs.lemmas.Str.{IsUtf8-from_ascii}
 use Rattle.std.proofs.lemmas.Str.Parse.{IsNumeralModel, numerals_by_value, tells_all_ascii_digits, not_in_digits, parse_plain}
-use Rattle.std.proofs.lemmas.Fmt.{decimal_digit, decimal_nonempty, first_decimal, digits_decimal, parse-decimal, decimal-digits_value, IsAscii-decimal}
+use Rattle.std.proofs.lemmas.Fmt.{decimal_digit, decimal_nonempty, first_decimal, digits_decimal, parse-decimal, decimal-digits_value, IsAscii-decimal, length-decimal-le}
 use Rattle.std.proofs.lemmas.Result.{OkIff-at_ok}
 use Rattle.std.proofs.lemmas.Bool.{cases_lt}
 use Rattle.slips.specs.Format.{most}
@@ -14,8 +14,8 @@ use Rattle.slips.specs.Rules.{Number, IsNumber}
 pub own : IsNumeralModel (λ ds. all_ascii_digits ds ≡ true) (digits_value 10)
 own = numerals_by_value _ tells_all_ascii_digits
 
--- a writing begins with no sign, and with 0 only where that is all
-pub leads : (f : List ℕ) → IsNumber f → (get_or f 0 0 ≢ 43) × (get_or f 0 0 ≡ 48 → length f ≡ 1)
+-- a writing begins with no sign, and with 0 only where that is all, and has seven digits at most
+pub leads : (f : List ℕ) → IsNumber f → (get_or f 0 0 ≢ 43) × (get_or f 0 0 ≡ 48 → length f ≡ 1) × (length f ≤ 7)
 leads f (n, (h, e)) =
     let small : n < 2 ^ 64 = omega arith in
     let some : 0 < length (decimal n) = decimal_nonempty n small in
@@ -25,6 +25,7 @@ leads f (n, (h, e)) =
         | inl more ↦ absurd (omega (arith, first_decimal n more small))
         | inr none ↦ ap length (decimal_digit n (omega arith))
       ],
+      length-decimal-le 7 n (omega arith) (omega arith) (omega arith),
     )
 
 -- it is text, and is parsed as its number

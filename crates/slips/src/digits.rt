@@ -28,6 +28,8 @@ pub(crate) fn number(field: &[u8]) -> Result<u32, Cause>
     match field {
         [b'+', ..] => Err(Cause::BadNumber),
         [b'0', _, ..] => Err(Cause::BadNumber),
+        // more than seven digits: refused by their number, however many there are
+        [_, _, _, _, _, _, _, _, ..] => Err(Cause::BadNumber),
         _ => parsed(field).ok_or(Cause::BadNumber),
     }
 }
