@@ -11,8 +11,8 @@ use lengths::Length;
 use rows::{Rows, size_for};
 
 /// The rows that edits come to, each kept as a mark: the index of the last edit of its tag, or none for a blank row. (Whole rows
-/// would be as large as the kind's figures are, and so of no fixed size. The marks are made anew at each call of a book, so an index
-/// has no more bits than the 510 edits that a book can accept need.)
+/// would be as large as the kind's figures are, and so of no fixed size. The marks are made anew at each look, growth and strike, so
+/// their size counts: an index is a `u16`, which is enough for the 510 edits that a book can accept.)
 #[derive(Drop)]
 pub(crate) struct Replayed<'e, K> {
     pub(crate) edits: &'e [Edit<K>],

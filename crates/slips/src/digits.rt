@@ -28,7 +28,7 @@ pub(crate) fn number(field: &[u8]) -> Result<u32, Cause>
     match field {
         [b'+', ..] => Err(Cause::BadNumber),
         [b'0', _, ..] => Err(Cause::BadNumber),
-        // more than seven digits: refused by their number, however many there are
+        // eight bytes or more: no number of a row has so many, whatever they are
         [_, _, _, _, _, _, _, _, ..] => Err(Cause::BadNumber),
         _ => parsed(field).ok_or(Cause::BadNumber),
     }
