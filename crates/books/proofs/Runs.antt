@@ -1,7 +1,7 @@
 -- Lists of edits that are done one after another.
-use Rattle.std.proofs.Common.{◌≡◌, ℕ, ◌<◌, List, [], map, length, get_or, set, Option, Some, Result, sym, refl, ap, ◌∙◌, inl, inr, arith}
+use Rattle.std.proofs.Common.{◌≡◌, ℕ, ◌+◌, ◌<◌, List, [], ◌∷◌, ◌++◌, map, length, get_or, take, set, Option, Some, Result, sym, refl, ap, ◌∙◌, inl, inr}
 use mathlib.Core.Path.{fun_ext}
-use Rattle.std.proofs.lemmas.List.{map-set, get_or-map, set-get_or}
+use Rattle.std.proofs.lemmas.List.{map-set, get_or-map, set-get_or, take_more_set}
 use Rattle.std.proofs.lemmas.Bool.{cases_eq}
 use Rattle.lengths.specs.Figures.{Figures}
 use Rattle.books.specs.declared.causes.Refused.{Refused}
@@ -52,6 +52,11 @@ edits_kept {K} es i d a h =
     map-set (λ (e : Entry K). e.edit) es i _
     ∙ ap (set (map (λ (e : Entry K). e.edit) es) i) (sym (get_or-map (λ (e : Entry K). e.edit) es i d d.edit h))
     ∙ set-get_or (map (λ (e : Entry K). e.edit) es) i d.edit
+
+-- entries up to one that was noted are those before it, and it with its answer, however that came to be noted
+pub noted_more : {K : Type 0} (es : List (Entry K)) (i : ℕ) (n : Entry K) (a : Option (Result (Unit {0}) Refused)) → i < length es → n.answer ≡ a
+    → take (i + 1) (set es i (record { edit = n.edit; answer = a })) ≡ take i es ++ n ∷ []
+noted_more {K} es i n a h e = ap (λ (b : Option (Result (Unit {0}) Refused)). take (i + 1) (set es i (record { edit = n.edit; answer = b }))) (sym e) ∙ take_more_set es i n h
 
 -- the empty list leads to a new book
 pub led_new : {K : Type 0} {k : Figures K} (s : ℕ → State K) → New k s → Led k [] s

@@ -13,7 +13,7 @@ pub fn spur_cause<K: Length>(tag: u32, spur: &Spur<K>) -> Result<(), Refusal>
     if !(1..tag).contains(&spur.parent) {
         return Err(Refusal::BadParent);
     }
-    if spur.run <= K::zero() || !spur.run.is_entry() {
+    if !K::zero().less(&spur.run) || !spur.run.is_entry() {
         return Err(Refusal::BadRun);
     }
     if !spur.drop.is_entry() {

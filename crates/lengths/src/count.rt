@@ -4,7 +4,7 @@ ghost use Rattle.std.specs.Prelude.{refl};
 ghost use Rattle.std.proofs.Common.{rules, arith};
 ghost use Rattle.lengths.specs.WholeLaws.{whole_laws, whole_exact};
 
-use crate::interface::{Length, Whole};
+use crate::interface::{Length, Ordered, Whole};
 
 /// A whole number of units, of which a single run or drop has at most `MOST`. A sum too large for 64 bits is the greatest number
 /// that they hold.
@@ -24,8 +24,6 @@ impl<const MOST: u32> Length for Count<MOST> {
 
     ghost laws = { whole_laws (λ n. record { value = n }) (λ x. x.value) (λ x. refl) (λ n. refl) MOST (omega arith) };
 
-    ghost ordered = { Prim.search rules };
-
     fn zero() -> Count<MOST> {
         Count { value: 0 }
     }
@@ -36,9 +34,17 @@ impl<const MOST: u32> Length for Count<MOST> {
         }
     }
 
+    fn less(&self, other: &Count<MOST>) -> bool {
+        self.value < other.value
+    }
+
     fn is_entry(&self) -> bool {
         self.value <= u64::from(MOST)
     }
+}
+
+impl<const MOST: u32> Ordered for Count<MOST> {
+    ghost ordered = { Prim.search rules };
 }
 
 impl<const MOST: u32> Whole for Count<MOST> {

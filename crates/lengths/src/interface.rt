@@ -4,7 +4,7 @@ ghost use Rattle.std.specs.Ordering.{is_lt};
 ghost use Rattle.lengths.specs.Figures.{Figures, Laws, Exact};
 
 /// A kind of length. A value of the type is a figure; an entry is a figure that may be a single run or drop.
-pub trait Length: Copy + Ord {
+pub trait Length: Copy {
     // What the kind says of its figures.
     ghost figures: { Figures Self };
 
@@ -16,18 +16,15 @@ pub trait Length: Copy + Ord {
     fn plus(self, other: Self) -> Self
         ensures { result ≡ figures.sum self other };
 
-    /// Whether this figure is less than the other: what `<` says, in the words of the kind.
+    /// Whether this figure is less than the other.
     fn less(&self, other: &Self) -> bool
-        ensures { result ≡ figures.less self.now other.now }
-    {
-        self < other
-    }
+        ensures { result ≡ figures.less self.now other.now };
 
-    /// Whether the two are the same figure: what `==` says.
+    /// Whether the two are the same figure.
     fn same(&self, other: &Self) -> bool
         ensures { Decides result (self.now ≡ other.now) }
     {
-        self == other
+        !self.less(other) && !other.less(self)
     }
 
     /// Whether this figure may be an entry.
@@ -36,9 +33,19 @@ pub trait Length: Copy + Ord {
 
     // The laws, which each kind shows and generic code cites.
     ghost laws: { Laws figures };
+}
+
+/// A kind whose type is ordered as its figures are: `<` of two figures says what `less` does.
+pub trait Ordered: Length + Ord {
+    /// Whether this figure is before the other in the order of the type: what `<` says, in the words of the kind.
+    fn before(&self, other: &Self) -> bool
+        ensures { result ≡ Self.Length.figures.less self.now other.now }
+    {
+        self < other
+    }
 
     // The order of the type is that of the figures.
-    ghost ordered: { (x y : Self) → is_lt (Self.Ord.cmp x y) ≡ figures.less x y };
+    ghost ordered: { (x y : Self) → is_lt (Self.Ord.cmp x y) ≡ Self.Length.figures.less x y };
 }
 
 /// A kind whose figures are whole numbers.

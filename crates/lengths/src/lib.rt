@@ -10,6 +10,6 @@ mod pairs;
 mod sums;
 
 pub use count::{Count, Couplings, Millimetres};
-pub use interface::{Length, Whole};
+pub use interface::{Length, Ordered, Whole};
 pub use pairs::{FirstThen, KindC, KindM, kind_c, one_coupling_is_more};
 pub use sums::{larger, sum_of};

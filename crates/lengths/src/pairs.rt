@@ -5,7 +5,7 @@ ghost use Rattle.lengths.specs.Pairs.{first_then, kind_c_figures, figure_c};
 ghost use Rattle.lengths.specs.PairLaws.{pair_laws, pair_ordered};
 
 use crate::count::{Couplings, Millimetres};
-use crate::interface::Length;
+use crate::interface::{Length, Ordered};
 
 /// A figure in two parts: the first decides, and the second where the first parts are equal.
 #[derive(Clone, Copy, PartialEq, Eq, PartialOrd, Ord, Debug)]
@@ -18,8 +18,6 @@ impl<A: Length, B: Length> Length for FirstThen<A, B> {
     ghost figures = { first_then A.Length.figures B.Length.figures };
 
     ghost laws = { pair_laws A.Length.laws B.Length.laws };
-
-    ghost ordered = { pair_ordered A.Length.figures B.Length.figures A.Ord.cmp B.Ord.cmp A.Ord.total A.Length.ordered B.Length.ordered };
 
     fn zero() -> FirstThen<A, B> {
         FirstThen {
@@ -35,9 +33,23 @@ impl<A: Length, B: Length> Length for FirstThen<A, B> {
         }
     }
 
+    fn less(&self, other: &FirstThen<A, B>) -> bool {
+        if self.first.less(&other.first) {
+            return true;
+        }
+        if other.first.less(&self.first) {
+            return false;
+        }
+        self.second.less(&other.second)
+    }
+
     fn is_entry(&self) -> bool {
         self.first.is_entry() && self.second.is_entry()
     }
+}
+
+impl<A: Ordered, B: Ordered> Ordered for FirstThen<A, B> {
+    ghost ordered = { pair_ordered A.Length.figures B.Length.figures A.Ord.cmp B.Ord.cmp A.Ord.total A.Ordered.ordered B.Ordered.ordered };
 }
 
 /// Kind M: millimetres alone.

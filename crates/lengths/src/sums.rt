@@ -25,5 +25,5 @@ pub fn larger<L: Length>(a: L, b: L) -> L
     ensures value { result ≡ (if L.figures.less a b then b else a) }
     ensures most { AtMost L.figures a result × AtMost L.figures b result }
 {
-    a.max(b)
+    if a.less(&b) { b } else { a }
 }

@@ -1,5 +1,5 @@
 // What the tests ask of the figures of any kind.
-use lengths::{Length, larger, sum_of};
+use lengths::{Length, Ordered, larger, sum_of};
 use std::process::Abort;
 
 /// Checks that `a` is less than `b`, in every call that compares.
@@ -10,6 +10,13 @@ pub(crate) fn check_less<L: Length>(rt: &impl Abort, a: L, b: L) {
     assert!(rt; a.same(&a) && b.same(&b));
     assert!(rt; larger(a, b).same(&b) && larger(b, a).same(&b));
     assert!(rt; larger(a, a).same(&a));
+}
+
+/// Checks that the type has `a` before `b`, as it must where `a` is less.
+pub(crate) fn check_before<L: Ordered>(rt: &impl Abort, a: L, b: L) {
+    check_less(rt, a, b);
+    assert!(rt; a.before(&b) && !b.before(&a) && !a.before(&a));
+    assert!(rt; a < b && a != b && a.max(b).same(&b) && b.min(a).same(&a));
 }
 
 /// Checks that `all` is what the figures come to.

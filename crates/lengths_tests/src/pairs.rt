@@ -1,6 +1,8 @@
 // First-then kinds: kind C, and a kind nested in another.
-use crate::asked::{check_less, check_plus, check_sum};
-use lengths::{Couplings, FirstThen, KindC, Length, Whole, kind_c, one_coupling_is_more};
+use crate::asked::{check_before, check_less, check_plus, check_sum};
+use lengths::{
+    Couplings, FirstThen, KindC, Length, Millimetres, Whole, kind_c, one_coupling_is_more,
+};
 
 /// A first-then kind with another as its second part.
 type Nested = FirstThen<Couplings, KindC>;
@@ -35,6 +37,14 @@ fn kind_c_adds_part_by_part(rt: HostRuntime) {
         &[kind_c(1, 400), kind_c(0, 150), kind_c(9, 50)],
         kind_c(10, 600),
     );
+}
+
+#[test]
+fn the_order_of_the_type_is_that_of_the_figures(rt: HostRuntime) {
+    check_before(&rt, Millimetres { value: 9 }, Millimetres { value: 10 });
+    check_before(&rt, kind_c(0, 1_000_000), kind_c(1, 0));
+    check_before(&rt, kind_c(2, 5), kind_c(2, 6));
+    check_before(&rt, nested(1, 2, 1_000_000), nested(1, 3, 0));
 }
 
 #[test]

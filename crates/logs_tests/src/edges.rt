@@ -7,7 +7,7 @@ use tables::{Row, TableBook};
 
 /// Whether every tag but the root is blank in a book of three tags.
 fn is_new<B: Book>(book: &B) -> bool {
-    book.look(2) == Ok(State::Blank) && book.look(3) == Ok(State::Blank)
+    matches!(book.look(2), Ok(State::Blank)) && matches!(book.look(3), Ok(State::Blank))
 }
 
 /// A spur on the root with this run and no drop.

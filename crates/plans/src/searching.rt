@@ -39,7 +39,8 @@ impl<K: Length> Found<K> {
     fn beats(&self, other: &Found<K>) -> bool
         ensures { result ≡ beats K.figures self.now other.now }
     {
-        self.weight < other.weight || !(other.weight < self.weight) && self.length < other.length
+        self.weight.less(&other.weight)
+            || !other.weight.less(&self.weight) && self.length.less(&other.length)
     }
 }
 
@@ -48,7 +49,7 @@ fn exceeds<K: Length>(limit: Option<K>, length: K) -> bool
     ensures { result ≡ exceeds K.figures limit length }
 {
     match limit {
-        Some(limit) => limit < length,
+        Some(limit) => limit.less(&length),
         None => false,
     }
 }

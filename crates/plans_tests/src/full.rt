@@ -21,7 +21,10 @@ fn chain<B: Book>(rt: &impl Abort, book: &mut B, run: B::Kind) {
 
 /// Grows a chain of 256 points in a book, and checks its measures and plans: 128 runs to the farther end from the middle, 16,256 runs
 /// from all points to a trunk of one run, and 255 runs in all.
-fn check_chain<B: Book>(rt: &impl Abort, book: &mut B, memory: &mut [B::Kind], many: [B::Kind; 4]) {
+fn check_chain<B: Book>(rt: &impl Abort, book: &mut B, memory: &mut [B::Kind], many: [B::Kind; 4])
+where
+    B::Kind: Eq,
+{
     let [run, middle, near, all] = many;
     chain(rt, book, run);
     assert!(rt; hub(book, memory) == plan(128, 129, middle));

@@ -15,3 +15,5 @@ mod kind_c;
 mod measures;
 #[cfg(test)]
 mod mistakes;
+#[cfg(test)]
+mod own_kind;

@@ -1,10 +1,10 @@
-use Rattle.std.proofs.Common.{◌≡◌, ℕ, ◌+◌, ◌<◌, List, [], ◌∷◌, ◌++◌, Some, length, get_or, take, set, sym, refl, ap, ◌∙◌, subst, rules}
-use Rattle.std.proofs.lemmas.List.{take_all, take_more_set}
+use Rattle.std.proofs.Common.{◌≡◌, ℕ, ◌<◌, List, [], Some, length, get_or, take, sym, refl, ap, ◌∙◌, subst, rules}
+use Rattle.std.proofs.lemmas.List.{take_all}
 use Rattle.books.specs.declared.edits.Entry.{Entry}
 use Rattle.books.specs.Edits.{Course, nothing, verdict, Done, Wrote, end}
 use Rattle.books.proofs.Counts.{course_less, course_few}
 use Rattle.books.proofs.Courses.{course_more, course_led, course_answered, course_once, wrote_more}
-use Rattle.books.proofs.Runs.{answered_as, edits_kept, led_new}
+use Rattle.books.proofs.Runs.{answered_as, edits_kept, led_new, noted_more}
 use Rattle.books.proofs.applying.apply.Goals as goal
 
 pub loop-entry-init : goal.loop-entry-init
@@ -18,18 +18,18 @@ loop-entry-preserved g c =
     let i = c.loop-entry.entry-index in
     let y : Entry g.row.B-Kind.Denot = record { edit = (get_or xs i c.entry-item.result).edit; answer = Some c.attempt-answer.result } in
     let within : i < length xs = search rules in
-    let more : take (i + 1) (set xs i y) ≡ take i xs ++ y ∷ [] = take_more_set xs i y within in
     let done = c.attempt-answer.ensures in
     let s = g.B.Book.state c.loop-entry.book in
     let t = g.B.Book.state c.attempt-answer.new.book in
     let answer = done.answer ∙ ap (λ (m : ℕ). verdict k m s y.edit) c.loop-entry.invariant.size in
+    -- whatever the body noted, that it is the answer has to be found (`search`): so an edit of the body is judged by what it notes
     record {
-      edits = edits_kept xs i c.entry-item.result (Some c.attempt-answer.result) within ∙ c.loop-entry.invariant.edits;
+      edits = edits_kept xs i c.entry-item.result _ within ∙ c.loop-entry.invariant.edits;
       size = done.size ∙ c.loop-entry.invariant.size;
-      course = subst (λ (es : List (Entry g.row.B-Kind.Denot)). Course k n es (g.B.Book.state c.args.book.now) t) (sym more)
+      course = subst (λ (es : List (Entry g.row.B-Kind.Denot)). Course k n es (g.B.Book.state c.args.book.now) t) (sym (noted_more xs i y _ within (search rules)))
           (course_more y c.loop-entry.invariant.course (ap Some answer) (subst (λ r. Done y.edit r s t) answer done.done));
       leaves = λ a h. done.leaves a (c.loop-entry.invariant.leaves a h);
-      wrote = subst (λ (es : List (Entry g.row.B-Kind.Denot)). Wrote g.B.Book.writes c.args.book.now es c.attempt-answer.new.book) (sym more)
+      wrote = subst (λ (es : List (Entry g.row.B-Kind.Denot)). Wrote g.B.Book.writes c.args.book.now es c.attempt-answer.new.book) (sym (noted_more xs i y _ within (search rules)))
           (wrote_more y.edit c.attempt-answer.result c.loop-entry.invariant.wrote done.writes done.refused);
     }
 
