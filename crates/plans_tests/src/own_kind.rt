@@ -42,15 +42,15 @@ impl Length for Joints {
 }
 
 /// So many joints.
-fn of(count: u64) -> Joints {
+fn joints_of(count: u64) -> Joints {
     Joints { count }
 }
 
 /// Whether a call answered the plan with these ends and this figure.
-fn is(answer: Result<Plan<Joints>, Denial>, first: u32, last: u32, figure: u64) -> bool {
+fn is_plan(answer: Result<Plan<Joints>, Denial>, first: u32, last: u32, figure: u64) -> bool {
     answer.is_ok_and(|plan| plan.first == first
         && plan.last == last
-        && plan.figure.same(&of(figure)))
+        && plan.figure.same(&joints_of(figure)))
 }
 
 /// A chain of three points in a book, by `apply`, with one edit that is refused for its run; and its plans.
@@ -58,8 +58,8 @@ fn check_plans<B: Book<Kind = Joints>>(rt: &impl Abort, book: &mut B) {
     let grown = |tag: u32, run: u64| {
         let spur = Spur {
             parent: tag - 1,
-            run: of(run),
-            drop: of(1),
+            run: joints_of(run),
+            drop: joints_of(1),
         };
         Entry {
             edit: Edit::Growth { tag, spur },
@@ -71,10 +71,10 @@ fn check_plans<B: Book<Kind = Joints>>(rt: &impl Abort, book: &mut B) {
     let [first, second, third] = entries;
     assert!(rt; matches!(first.answer, Some(Ok(()))) && matches!(third.answer, Some(Ok(()))));
     assert!(rt; second.answer == Some(Err(Refusal::BadRun.of_tag(3))));
-    let mut memory = [of(7); 3];
-    assert!(rt; is(hub(book, &mut memory), 2, 2, 20));
-    assert!(rt; is(spine(book, &mut memory), 1, 3, 1));
-    assert!(rt; is(trunk(book, of(20), &mut memory), 1, 2, 4));
+    let mut memory = [joints_of(7); 3];
+    assert!(rt; is_plan(hub(book, &mut memory), 2, 2, 20));
+    assert!(rt; is_plan(spine(book, &mut memory), 1, 3, 1));
+    assert!(rt; is_plan(trunk(book, joints_of(20), &mut memory), 1, 2, 4));
 }
 
 #[test]
@@ -83,6 +83,6 @@ fn a_kind_whose_type_has_no_order_is_done_in_both_books(rt: HostRuntime) {
     check_plans(&rt, &mut TableBook::open(&mut rows));
     let mut entries = [Edit::<Joints>::Strike { tag: 2 }; 4];
     check_plans(&rt, &mut LogBook::open(&mut entries));
-    assert!(rt; larger(of(3), of(4)).same(&of(4)));
-    assert!(rt; sum_of(&[of(3), of(4), of(20)]).same(&of(27)));
+    assert!(rt; larger(joints_of(3), joints_of(4)).same(&joints_of(4)));
+    assert!(rt; sum_of(&[joints_of(3), joints_of(4), joints_of(20)]).same(&joints_of(27)));
 }
